@@ -1,6 +1,7 @@
 -- Texts, and the readings that schemes work on.
 --   reading      a straight format reads the text itself, a turned one moves its first four characters to the end
 --   placeInText  the place in the text of a place of the reading; places are counted from 1, and 0 stands for none
+--   inText       a fault of the reading, with its place in the text
 --   Text         1 to 34 characters
 --   strayAt      the first place, from k on, of a byte that is no character
 --   narrow       a turned text of fewer than five characters
@@ -34,6 +35,9 @@ movedBy Turned = 4
 abbrev pub placeInText : Turn → ℕ → ℕ → ℕ
 placeInText Straight w k = k
 placeInText Turned w k = cond (eqb k 0) 0 (cond (leb k (w - 4)) (k + 4) (k - (w - 4)))
+
+abbrev pub inText : Turn → ℕ → Fault → Fault
+inText turn w f = faultAt (f .refusal) (f .layer) (placeInText turn w (f .place))
 
 pub record Text (t : List ℕ) : Type 0 where
   pub some : 1 ≤ length t

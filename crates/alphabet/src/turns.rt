@@ -3,7 +3,8 @@ ghost use mathlib.Core.List.{List};
 ghost use Prim.Native.Nat.{ℕ, _+_, _-_, _<_, _≤_};
 ghost use lib.ListN.{length, getD};
 ghost use mathlib.Core.Bool.{false};
-ghost use Rattle.alphabet.specs.Readings.{placeInText, reading, narrow};
+ghost use Rattle.alphabet.specs.Readings.{placeInText, inText, reading, narrow};
+use crate::fault::Fault;
 use crate::turn::Turn;
 
 impl Turn {
@@ -25,5 +26,14 @@ impl Turn {
                 }
             }
         }
+    }
+}
+
+impl Fault {
+    /// A fault of a reading, with its place in the written text of that width.
+    pub fn in_text(self, turn: Turn, width: usize) -> Fault
+        ensures { λ r. ⌜ r ≡ inText turn width self ⌝ }
+    {
+        Fault { place: turn.place_in_text(width, self.place), ..self }
     }
 }
