@@ -1,5 +1,5 @@
 //! From the bytes of a file to verdicts: paper forms, lines and totals.
+mod paper;
 mod state;
-mod strip;
 
-pub use strip::strip;
+pub use paper::strip;

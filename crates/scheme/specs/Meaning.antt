@@ -42,10 +42,13 @@ pub record Meaning (V : Type 0) : Type 0 where
   -- the reading with its key places filled
   pub keyed : List ℕ → List ℕ
 
--- the running value after some characters, the first of which stands at place k of a reading of width w
+-- the running value after some characters by a rule for the next one; the first of them stands at place k of width w
+abbrev pub runBy : {V : Type 0} → (ℕ → ℕ → V → ℕ → V) → ℕ → ℕ → V → List ℕ → V
+runBy next w k v [] = v
+runBy next w k v (c ∷ cs) = runBy next w (k + 1) (next w k v c) cs
+
 abbrev pub runFrom : {V : Type 0} → Meaning V → ℕ → ℕ → V → List ℕ → V
-runFrom m w k v [] = v
-runFrom m w k v (c ∷ cs) = runFrom m w (k + 1) (m .next w k v c) cs
+runFrom m w k v cs = runBy (m .next) w k v cs
 
 abbrev pub run : {V : Type 0} → Meaning V → List ℕ → V
 run m r = runFrom m (length r) 1 (m .start) r

@@ -1,0 +1,16 @@
+use mathlib.Core.Path.{sym}
+use native.Mathlib.Nat.{sub-zero}
+use native.Mathlib.Omega.{arith}
+use lib.ListN.{length}
+use Rattle.engine.proofs.Singles.{written}
+use Rattle.engine.proofs.shared.fill.Needs as need
+
+pub sub-end : need.sub-end
+sub-end g c = omega (arith, g .E·Engine·met .keeps (c .args .engine .now) .wide (length (c .args .reading .now)) (sym (c .if-takes .ensures tt)) .0)
+
+pub returns-then-takes : need.returns-then-takes
+returns-then-takes g c =
+    let e = g .E·Engine .rules (c .args .engine .now) in
+    let value = simp sub-zero at (c .value-after-value .ensures) in
+    written e (g .E·Engine·met .keeps (c .args .engine .now)) (c .args .reading .now) (c .write-key .last .key) (c .keys .result) (c .value-after-value .result)
+    (c .keys .ensures) (sym (c .if-takes .ensures tt)) value (c .write-key .ensures)
