@@ -22,7 +22,7 @@ use Rattle.alphabet.specs.Readings.{Text}
 use Rattle.alphabet.specs.declared.fault.Fault.{Fault}
 use Rattle.alphabet.specs.declared.fault.Refusal.the-variants.{Width, Kind, Key, Remainder}
 use Rattle.scheme.specs.Meaning.{Meaning, Accepted, Agree, FaultOf, OfLayer, Lawful, runBy, width, kind, key, remainder}
-use Rattle.engine.specs.Rules.{Rules, uncounted, misfit, body, before, last, filled, single, Keeps}
+use Rattle.engine.specs.Rules.{Rules, uncounted, misfit, body, before, last, filled, single, Keeps, Sealed}
 
 -- a character that is not allowed stands at one of the places
 stopped : (e : Rules) (w k p : ℕ) (c : ℕ) (cs : List ℕ) → (uncounted e w (k + 1) cs ≡ Some p → p < (k + 1) + length cs) → (b : Bool) → cond b (uncounted e w (k + 1) cs) (Some k) ≡ Some p → p < k + length (c ∷ cs)
@@ -187,3 +187,6 @@ module _ (e : Rules) (keeps : Keeps e) where
       let none = append-nil y in
       let f = filled-by e xs true t in
       cc
+
+  pub sealed : (r s : List ℕ) → s ≡ filled e r → Sealed e r s
+  sealed r s q t u = let P : List ℕ → Type 0 = λ xs. Accepted (single e) xs in subst P (sym q) (keeps .key-good r t u)

@@ -3,6 +3,7 @@
 --   uncounted  the first place, from k on, of a character that is not allowed there
 --   misfit     the first fault of a reading that is not fit: width, kind, key out of range
 --   single     the meaning of an engine as a scheme
+--   Sealed     what filling the key promises of the reading afterwards
 --   Keeps      what the rules of an engine keep, from which the laws of a scheme follow
 use mathlib.Core.Path.{_≡_}
 use mathlib.Core.Bool.{Bool, true, false, cond, not, _&&_}
@@ -18,7 +19,7 @@ use Rattle.alphabet.specs.Faults.{faultAt, first, whenever}
 use Rattle.alphabet.specs.Readings.{Text}
 use Rattle.alphabet.specs.declared.fault.Fault.{Fault}
 use Rattle.alphabet.specs.declared.fault.Refusal.the-variants.{Width, Kind, Key, Remainder}
-use Rattle.scheme.specs.Meaning.{Meaning, Step, Running, runBy}
+use Rattle.scheme.specs.Meaning.{Meaning, Accepted, Step, Running, runBy}
 
 pub record Rules : Type 0 where
   -- whether the engine has a width
@@ -81,5 +82,11 @@ pub record Keeps (e : Rules) : Type 0 where
   pub injective : (w k c u v : ℕ) → Step w k c → Running (single e) u → Running (single e) v → e .next w k u c ≡ e .next w k v c → u ≡ v
   pub key-length : (w v : ℕ) → length (e .key w v) ≡ e .keys
   pub key-characters : (w v : ℕ) → Characters (e .key w v)
+  -- the key in range that belongs to the running value before it makes the reading accepted
+  pub key-good : (r : List ℕ) → e .takes (length r) ≡ true → uncounted e (length r) 1 (body e r) ≡ None → Accepted (single e) (filled e r)
   -- the key of an accepted reading is the one that belongs to its running value
   pub key-only : (r : List ℕ) → Text r → misfit e r ≡ None → last e r ≡ e .good → drop (length r - e .keys) r ≡ e .key (length r) (before e r)
+
+-- where the engine has the width and counts every character before the key, the reading with its key is accepted
+abbrev pub Sealed : Rules → List ℕ → List ℕ → Type 0
+Sealed e r s = e .takes (length r) ≡ true → uncounted e (length r) 1 (body e r) ≡ None → Accepted (single e) s

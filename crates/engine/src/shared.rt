@@ -3,7 +3,7 @@ ghost use Prim.Native.Nat.{ℕ, _+_, _-_, _<_, _≤_};
 ghost use lib.ListN.{length};
 ghost use Rattle.alphabet.specs.Faults.{answer};
 ghost use Rattle.scheme.specs.Meaning.{runBy};
-ghost use Rattle.engine.specs.Rules.{misfit, uncounted, filled};
+ghost use Rattle.engine.specs.Rules.{misfit, uncounted, filled, Sealed};
 use crate::engines::Engine;
 use alphabet::Fault;
 use alphabet::Refusal;
@@ -52,7 +52,8 @@ fn value_after<E: Engine>(engine: &E, width: usize, characters: &[u8]) -> u16
 
 /// Writes the one key of a reading into its last places, at a width that the engine has; at any other, nothing.
 pub fn fill<E: Engine>(engine: &E, reading: &mut [u8])
-    ensures { λ _. ⌜ now (reading .exit) ≡ filled (rules (now (engine .entry))) (now (reading .entry)) ⌝ }
+    ensures after { λ _. ⌜ now (reading .exit) ≡ filled (rules (now (engine .entry))) (now (reading .entry)) ⌝ }
+    ensures good { λ _. ⌜ Sealed (rules (now (engine .entry))) (now (reading .entry)) (now (reading .exit)) ⌝ }
 {
     let width = reading.len();
     if engine.takes(width) {
