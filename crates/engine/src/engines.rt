@@ -30,6 +30,10 @@ pub trait Engine {
     fn initial(&self) -> u16
         ensures { λ r. ⌜ r ≡ rules (now (self .entry)) .start ⌝ };
 
+    /// The one last running value that is good.
+    fn target(&self) -> u16
+        ensures { λ r. ⌜ r ≡ rules (now (self .entry)) .good ⌝ };
+
     /// The running value after one more character.
     fn step(&self, width: usize, place: usize, value: u16, character: u8) -> u16
         ensures { λ r. ⌜ r ≡ rules (now (self .entry)) .next width place value character ⌝ };

@@ -4,4 +4,5 @@ mod shared;
 
 pub use engines::Engine;
 pub use shared::fill;
-pub use shared::fitness;
+pub use shared::fits;
+pub use shared::judge;

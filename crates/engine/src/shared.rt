@@ -3,7 +3,7 @@ ghost use Prim.Native.Nat.{ℕ, _+_, _-_, _<_, _≤_};
 ghost use lib.ListN.{length};
 ghost use Rattle.alphabet.specs.Faults.{answer};
 ghost use Rattle.scheme.specs.Meaning.{runBy};
-ghost use Rattle.engine.specs.Rules.{misfit, uncounted, filled, Sealed};
+ghost use Rattle.engine.specs.Rules.{misfit, uncounted, filled, single, last as lastOf, Sealed};
 use crate::engines::Engine;
 use alphabet::Fault;
 use alphabet::Refusal;
@@ -21,9 +21,9 @@ fn first_uncounted<E: Engine>(engine: &E, reading: &[u8]) -> Option<usize>
     None
 }
 
-/// Answers well where a reading is fit for an engine, else its first fault: a width that the engine lacks, a character
-/// that is not allowed at its place, a key out of range.
-pub fn fitness<E: Engine>(engine: &E, reading: &[u8]) -> Result<(), Fault>
+// Answers well where a reading is fit for an engine, else its first fault: a width that the engine lacks, a character
+// that is not allowed at its place, a key out of range.
+fn fitness<E: Engine>(engine: &E, reading: &[u8]) -> Result<(), Fault>
     ensures { λ r. ⌜ r ≡ answer tt (misfit (rules (now (engine .entry))) (now (reading .entry))) ⌝ }
 {
     let width = reading.len();
@@ -35,6 +35,25 @@ pub fn fitness<E: Engine>(engine: &E, reading: &[u8]) -> Result<(), Fault>
     }
     if !engine.in_range(reading) {
         return Err(Fault::new(Refusal::Key, 1, width - engine.keys() + 1));
+    }
+    Ok(())
+}
+
+/// Whether a reading is fit for an engine.
+pub fn fits<E: Engine>(engine: &E, reading: &[u8]) -> bool
+    ensures { λ r. ⌜ r ≡ single (rules (now (engine .entry))) .fit (now (reading .entry)) ⌝ }
+{
+    fitness(engine, reading).is_ok()
+}
+
+/// Accepts a reading whose last running value is `last`, or answers its first fault; where it is fit, that is the
+/// remainder.
+pub fn judge<E: Engine>(engine: &E, reading: &[u8], last: u16) -> Result<(), Fault>
+    ensures { λ r. ⌜ (last ≡ lastOf (rules (now (engine .entry))) (now (reading .entry)) → r ≡ answer tt (single (rules (now (engine .entry))) .fault (now (reading .entry)))) ⌝ }
+{
+    fitness(engine, reading)?;
+    if last != engine.target() {
+        return Err(Fault::new(Refusal::Remainder, 1, 0));
     }
     Ok(())
 }
