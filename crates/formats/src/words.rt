@@ -1,0 +1,65 @@
+ghost use mathlib.Core.Path.{_≡_};
+ghost use Rattle.std.specs.Options.{Cases as BySome};
+ghost use Rattle.std.specs.Results.{Cases};
+ghost use Rattle.formats.specs.declared.format.Format.{Format as Named};
+ghost use Rattle.formats.specs.Formats.{wordOf, named, formatOf, formatVerdict, FormatValid};
+use crate::format::Format;
+use alphabet::Fault;
+use alphabet::Turn;
+use pure::Pure;
+use pure::PureScheme;
+use scheme::check;
+
+// Every format.
+const EVERY: [Format; 5] = [
+    Format::System(Pure::Mod11R2),
+    Format::System(Pure::Mod37R2),
+    Format::System(Pure::Mod97R10),
+    Format::System(Pure::Mod661R26),
+    Format::System(Pure::Mod1271R36),
+];
+
+// The first of some formats that has a word.
+fn search(formats: &[Format], word: &[u8]) -> Option<Format>
+    ensures { λ r. ⌜ r ≡ named (now (word .entry)) (now (formats .entry)) ⌝ }
+{
+    for format in formats {
+        if word == format.word() {
+            return Some(*format);
+        }
+    }
+    None
+}
+
+impl Format {
+    /// The word of the format, as it is written before a number.
+    pub fn word(self) -> &'static [u8]
+        ensures { λ r. ⌜ now r ≡ wordOf self ⌝ }
+    {
+        match self {
+            Format::System(Pure::Mod11R2) => b"MOD11-2",
+            Format::System(Pure::Mod37R2) => b"MOD37-2",
+            Format::System(Pure::Mod97R10) => b"MOD97-10",
+            Format::System(Pure::Mod661R26) => b"MOD661-26",
+            Format::System(Pure::Mod1271R36) => b"MOD1271-36",
+        }
+    }
+
+    /// The format that has a word, byte for byte.
+    pub fn named(word: &[u8]) -> Option<Format>
+        ensures value { λ r. ⌜ r ≡ formatOf (now (word .entry)) ⌝ }
+        ensures exact { λ r. ⌜ BySome r ((f : Named) → wordOf f ≡ now (word .entry) → ⊥) (λ f. wordOf f ≡ now (word .entry)) ⌝ }
+    {
+        search(&EVERY, word)
+    }
+
+    /// Checks a text by the format: `Ok` exactly where the text is valid, else the first refusal in order.
+    pub fn check(self, text: &[u8]) -> Result<(), Fault>
+        ensures answers { λ r. ⌜ r ≡ formatVerdict self (now (text .entry)) ⌝ }
+        ensures exact { λ r. ⌜ Cases r (λ _. FormatValid self (now (text .entry))) (λ _. FormatValid self (now (text .entry)) → ⊥) ⌝ }
+    {
+        match self {
+            Format::System(system) => check(&system, Turn::Straight, text),
+        }
+    }
+}
