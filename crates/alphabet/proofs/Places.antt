@@ -32,12 +32,13 @@ at-the-end t k wide hi lo =
 turned : (t : List ℕ) (k : ℕ) → 5 ≤ length t → 1 ≤ k → k ≤ length t → getD t (placeInText Turned (length t) k - 1) 0 ≡ getD (drop 4 t ++ take 4 t) (k - 1) 0
 turned t k wide lo hi =
     elim (cases-lt (length t - 4) k) [
-      inl past ↦
-        let e : placeInText Turned (length t) k ≡ k - (length t - 4) = grind (arith, tells) in
-        ap (λ (j : ℕ). getD t (j - 1) 0) e ∙ at-the-end t k wide hi past
-    | inr front ↦
-        let e : placeInText Turned (length t) k ≡ k + 4 = grind (arith, tells) in
-        ap (λ (j : ℕ). getD t (j - 1) 0) e ∙ in-front t k lo front ]
+      | inl past ↦
+          let e : placeInText Turned (length t) k ≡ k - (length t - 4) = grind (arith, tells) in
+          ap (λ (j : ℕ). getD t (j - 1) 0) e ∙ at-the-end t k wide hi past
+      | inr front ↦
+          let e : placeInText Turned (length t) k ≡ k + 4 = grind (arith, tells) in
+          ap (λ (j : ℕ). getD t (j - 1) 0) e ∙ in-front t k lo front
+    ]
 
 pub same-character : (turn : Turn) (t : List ℕ) (k : ℕ) → narrow turn (length t) ≡ false → 1 ≤ k → k ≤ length t → getD t (placeInText turn (length t) k - 1) 0 ≡ getD (reading turn t) (k - 1) 0
 same-character Straight t k n lo hi = refl

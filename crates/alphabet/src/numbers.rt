@@ -31,13 +31,21 @@ impl Fault {
     pub fn new(refusal: Refusal, layer: usize, place: usize) -> Fault
         ensures { λ r. ⌜ r ≡ faultAt refusal layer place ⌝ }
     {
-        Fault { refusal, layer, place }
+        Fault {
+            refusal,
+            layer,
+            place,
+        }
     }
 
     /// A refusal of the whole text, which concerns no layer and no place.
     pub fn whole(refusal: Refusal) -> Fault
         ensures { λ r. ⌜ r ≡ ofNoLayer refusal ⌝ }
     {
-        Fault { refusal, layer: 0, place: 0 }
+        Fault {
+            refusal,
+            layer: 0,
+            place: 0,
+        }
     }
 }

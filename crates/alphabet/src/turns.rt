@@ -34,6 +34,9 @@ impl Fault {
     pub fn in_text(self, turn: Turn, width: usize) -> Fault
         ensures { λ r. ⌜ r ≡ inText turn width self ⌝ }
     {
-        Fault { place: turn.place_in_text(width, self.place), ..self }
+        Fault {
+            place: turn.place_in_text(width, self.place),
+            ..self
+        }
     }
 }

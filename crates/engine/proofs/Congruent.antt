@@ -44,4 +44,3 @@ cancel-mul m r u v (s, i) e = sym (through m r s u i) ∙ same-mul m s (r * u) (
 
 pub below-same : (m a b : ℕ) → a < m → b < m → a % m ≡ b % m → a ≡ b
 below-same m a b ha hb e = sym (mod-eq-of-lt ha) ∙ e ∙ mod-eq-of-lt hb
-

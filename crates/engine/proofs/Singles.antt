@@ -142,13 +142,13 @@ module _ (e : Rules) (keeps : Keeps e) where
       let lx = length-body x in
       let ly = length-body y in
       ext-getD 0 (body e x) (body e y) (omega arith) (λ i h.
-        let j : i < length x - e .keys = omega arith in
-        let j′ : i < length y - e .keys = omega arith in
-        let back : (i + 1) - 1 ≡ i = omega arith in
-        let off : single e .isKey (length x) (i + 1) ≡ false = let s : ltb (length x - e .keys) (i + 1) ≡ false = grind (arith, tells) in and-right (e .takes (length x)) _ (and-left _ (leb (i + 1) (length x)) s) in
-        getD-take (length x - e .keys) x i 0 j
-        ∙ (rw back at (a .same (i + 1) (omega arith) (omega arith) off))
-        ∙ sym (getD-take (length y - e .keys) y i 0 j′))
+      let j : i < length x - e .keys = omega arith in
+      let j′ : i < length y - e .keys = omega arith in
+      let back : (i + 1) - 1 ≡ i = omega arith in
+      let off : single e .isKey (length x) (i + 1) ≡ false = let s : ltb (length x - e .keys) (i + 1) ≡ false = grind (arith, tells) in and-right (e .takes (length x)) _ (and-left _ (leb (i + 1) (length x)) s) in
+      getD-take (length x - e .keys) x i 0 j
+      ∙ (rw back at (a .same (i + 1) (omega arith) (omega arith) off))
+      ∙ sym (getD-take (length y - e .keys) y i 0 j′))
 
   only : (x y : List ℕ) → Text y → Accepted (single e) y → Agree (single e) x y → filled e x ≡ y
   only x y ty acc agree =

@@ -63,3 +63,59 @@ impl Format {
         }
     }
 }
+
+#[cfg(test)]
+mod tests {
+    use super::*;
+    use alphabet::FaultDebug;
+    use alphabet::FaultPartialEq;
+    use alphabet::Refusal;
+    use std::test::*;
+
+    fn answer(word: &[u8], text: &[u8]) -> Result<(), Fault> {
+        match Format::named(word) {
+            Some(format) => format.check(text),
+            None => Err(Fault::whole(Refusal::Format)),
+        }
+    }
+
+    fn refused(word: &[u8], text: &[u8], refusal: Refusal, place: usize) -> Result<(), Fail> {
+        check_eq(answer(word, text), Err(Fault::new(refusal, 1, place)))
+    }
+
+    #[test]
+    fn accepts_the_examples() -> Result<(), Fail> {
+        check_eq(answer(b"MOD11-2", b"07940"), Ok(()))?;
+        check_eq(answer(b"MOD11-2", b"079X"), Ok(()))?;
+        check_eq(answer(b"MOD97-10", b"79444"), Ok(()))?;
+        check_eq(answer(b"MOD37-2", b"G123489654321Y"), Ok(()))?;
+        check_eq(answer(b"MOD661-26", b"BYX"), Ok(()))?;
+        check_eq(answer(b"MOD1271-36", b"1YN"), Ok(()))
+    }
+
+    #[test]
+    fn refuses_one_character_changed() -> Result<(), Fail> {
+        refused(b"MOD11-2", b"07840", Refusal::Remainder, 0)?;
+        refused(b"MOD11-2", b"07X", Refusal::Remainder, 0)?;
+        refused(b"MOD11-2", b"0X9X", Refusal::Kind, 2)?;
+        refused(b"MOD97-10", b"79400", Refusal::Key, 4)?;
+        refused(b"MOD97-10", b"79A44", Refusal::Kind, 3)?;
+        refused(b"MOD37-2", b"G123489654*21Y", Refusal::Kind, 11)?;
+        refused(b"MOD661-26", b"CYX", Refusal::Remainder, 0)?;
+        refused(b"MOD1271-36", b"1Y*", Refusal::Kind, 3)
+    }
+
+    #[test]
+    fn refuses_by_the_whole_text() -> Result<(), Fail> {
+        check_eq(answer(b"MOD11-2", b""), Err(Fault::whole(Refusal::Width)))?;
+        check_eq(
+            answer(b"MOD11-2", b"0 7940"),
+            Err(Fault::new(Refusal::Stray, 0, 2)),
+        )?;
+        check_eq(
+            answer(b"MOD11-02", b"07940"),
+            Err(Fault::whole(Refusal::Format)),
+        )?;
+        refused(b"MOD97-10", b"98", Refusal::Width, 0)
+    }
+}

@@ -14,10 +14,8 @@ use crate::state::Class;
 use crate::state::State;
 use alphabet::Fault;
 use alphabet::Refusal;
+use alphabet::WIDEST;
 use alphabet::is_character;
-
-// The most characters that a text has.
-const WIDEST: usize = 34;
 
 // How many characters a form has, and the first of them, as many as a text may have.
 struct Gathered {

@@ -158,7 +158,7 @@ module _ (m r : ℕ) (a k : Alphabet) (s : ℕ) (h : Sound (with-length m r a k 
         let hi : n .0 < s + m = grind (arith, tells) in
         let v : before e1 whole1 ≡ runBy (nextOf p1) (length whole1) 1 0 ys = ap (runBy (nextOf p1) (length whole1) 1 0) body1 in
         let good : (r * before e1 whole1 + n .0) % m ≡ 1 =
-            ap (λ (x : ℕ). (r * x + n .0) % m) v ∙ ap (λ (x : ℕ). (r * runBy (nextOf p1) (length whole1) 1 0 ys + x) % m) (sym is) ∙ sym value1 ∙ g in
+        ap (λ (x : ℕ). (r * x + n .0) % m) v ∙ ap (λ (x : ℕ). (r * runBy (nextOf p1) (length whole1) 1 0 ys + x) % m) (sym is) ∙ sym value1 ∙ g in
         let same = key-only m s (r * before e1 whole1) 1 (n .0) (keyAfter p1 (before e1 whole1)) (record { low = lo; high = hi; good = good }) (key-for p1 h (before e1 whole1)) in
         let sym1 = symbol-count k c (n .0) (n .1) in
         rest1 ∙ ap (λ (x : ℕ). x ∷ []) (sym sym1 ∙ ap (symbolOf k) same)
@@ -241,9 +241,9 @@ module _ (m r : ℕ) (a k : Alphabet) (s : ℕ) (h : Sound (with-length m r a k 
     number2 =
         let w = wide2 in
         let one : stepCount p2 (length whole2) (length whole2 - 1) (getD whole2 (length whole2 - 2) 0) ≡ valueOr (countOf k c) 0 =
-            ap (λ (x : ℕ). stepCount p2 (length whole2) (length whole2 - 1) x) first2 ∙ ap (λ (o : Option ℕ). valueOr o 0) (count2 (length whole2 - 1) c (omega arith) (omega arith)) in
+        ap (λ (x : ℕ). stepCount p2 (length whole2) (length whole2 - 1) x) first2 ∙ ap (λ (o : Option ℕ). valueOr o 0) (count2 (length whole2 - 1) c (omega arith) (omega arith)) in
         let two : stepCount p2 (length whole2) (length whole2) (getD whole2 (length whole2 - 1) 0) ≡ valueOr (countOf k d) 0 =
-            ap (λ (x : ℕ). stepCount p2 (length whole2) (length whole2) x) second2 ∙ ap (λ (o : Option ℕ). valueOr o 0) (count2 (length whole2) d (omega arith) (omega arith)) in
+        ap (λ (x : ℕ). stepCount p2 (length whole2) (length whole2) x) second2 ∙ ap (λ (o : Option ℕ). valueOr o 0) (count2 (length whole2) d (omega arith) (omega arith)) in
         cc
 
     body2 : body e2 whole2 ≡ ys
@@ -259,9 +259,10 @@ module _ (m r : ℕ) (a k : Alphabet) (s : ℕ) (h : Sound (with-length m r a k 
         let front = uncounted-front e2 (length whole2) 1 ys (c ∷ d ∷ []) u in
         let end = sym (uncounted-append e2 (length whole2) 1 ys (c ∷ d ∷ []) front) ∙ u in
         let one = allowed _ _ _ end in
-        let two = allowed _ _ _ (one .1) in
-        (sym (ap isSome (count2 (1 + length ys) c (omega arith) (omega arith))) ∙ one .0,
-         sym (ap isSome (count2 ((1 + length ys) + 1) d (omega arith) (omega arith))) ∙ two .0)
+        let two = allowed _ _ _ (one .1) in (
+          sym (ap isSome (count2 (1 + length ys) c (omega arith) (omega arith))) ∙ one .0,
+          sym (ap isSome (count2 ((1 + length ys) + 1) d (omega arith) (omega arith))) ∙ two .0,
+        )
 
     counted-both : uncounted e2 (length whole2) 1 ys ≡ None → isSome (countOf k c) ≡ true → isSome (countOf k d) ≡ true → uncounted e2 (length whole2) 1 whole2 ≡ None
     counted-both u pc pd =
@@ -285,7 +286,7 @@ module _ (m r : ℕ) (a k : Alphabet) (s : ℕ) (h : Sound (with-length m r a k 
         let hi : r * i .0 + j .0 < s + m = grind (arith, tells) in
         let v : before e2 whole2 ≡ runBy (nextOf p2) (length whole2) 1 0 ys = ap (runBy (nextOf p2) (length whole2) 1 0) body2 in
         let good : (r * (r * before e2 whole2) + (r * i .0 + j .0)) % m ≡ 1 =
-            ap (λ (x : ℕ). (r * (r * x) + (r * i .0 + j .0)) % m) v ∙ ap (λ (x : ℕ). (r * (r * runBy (nextOf p2) (length whole2) 1 0 ys) + x) % m) (sym is) ∙ sym value2 ∙ g in
+        ap (λ (x : ℕ). (r * (r * x) + (r * i .0 + j .0)) % m) v ∙ ap (λ (x : ℕ). (r * (r * runBy (nextOf p2) (length whole2) 1 0 ys) + x) % m) (sym is) ∙ sym value2 ∙ g in
         let n = keyAfter p2 (before e2 whole2) in
         let same : r * i .0 + j .0 ≡ n = key-only m s (r * (r * before e2 whole2)) 1 (r * i .0 + j .0) n (record { low = lo; high = hi; good = good }) (key-for p2 h (before e2 whole2)) in
         let below : j .0 < r = omega (arith, count-below k d (j .0) (j .1), h .room .0) in
@@ -309,7 +310,7 @@ module _ (m r : ℕ) (a k : Alphabet) (s : ℕ) (h : Sound (with-length m r a k 
         let cc1 : countOf k c ≡ Some (n / r) = ap (countOf k) qc ∙ count-symbol k (n / r) one in
         let cc2 : countOf k d ≡ Some (n % r) = ap (countOf k) qd ∙ count-symbol k (n % r) two in
         let is : made2 ≡ n =
-            ap (λ (o : Option ℕ). r * valueOr o 0 + valueOr (countOf k d) 0) cc1 ∙ ap (λ (o : Option ℕ). r * (n / r) + valueOr o 0) cc2 ∙ div-add-mod n r in
+        ap (λ (o : Option ℕ). r * valueOr o 0 + valueOr (countOf k d) 0) cc1 ∙ ap (λ (o : Option ℕ). r * (n / r) + valueOr o 0) cc2 ∙ div-add-mod n r in
         let none = counted-both u (ap isSome cc1) (ap isSome cc2) in
         let num : keyNumber p2 whole2 ≡ n = number2 ∙ is in
         let range : inRangeOf p2 whole2 ≡ true = grind (arith, tells) in

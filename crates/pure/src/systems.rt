@@ -51,7 +51,14 @@ impl Pure {
 fn two_keys(modulus: u16, radix: u16, alphabet: Alphabet) -> Parameters
     ensures { λ r. ⌜ r ≡ record { modulus = modulus; radix = radix; body = alphabet; key = alphabet; length = KeyLength.Two; least = 2 } ⌝ }
 {
-    Parameters { modulus, radix, body: alphabet, key: alphabet, length: KeyLength::Two, least: 2 }
+    Parameters {
+        modulus,
+        radix,
+        body: alphabet,
+        key: alphabet,
+        length: KeyLength::Two,
+        least: 2,
+    }
 }
 
 impl Parameters {

@@ -19,8 +19,8 @@ returns-then-takes g c =
     let keeps = g .E·Engine·met .keeps (c .args .engine .now) in
     let value = simp sub-zero at (c .value-after-value .ensures) in
     let after =
-        written e keeps (c .args .reading .now) (c .write-key .last .key) (c .keys .result) (c .value-after-value .result)
-        (c .keys .ensures) (sym (c .if-takes .ensures tt)) value (c .write-key .ensures) in
+    written e keeps (c .args .reading .now) (c .write-key .last .key) (c .keys .result) (c .value-after-value .result)
+    (c .keys .ensures) (sym (c .if-takes .ensures tt)) value (c .write-key .ensures) in
     record { after = after; good = sealed e keeps (c .args .reading .now) _ after }
 
 pub returns-else-takes : need.returns-else-takes
