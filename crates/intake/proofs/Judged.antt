@@ -22,7 +22,7 @@ use Rattle.pure.specs.declared.parameters.Pure.the-variants.{Mod11R2, Mod37R2, 
 use Rattle.formats.specs.Formats.{wordOf, formatOf, formatVerdict, FormatValid}
 use Rattle.formats.specs.declared.format.Format.{Format}
 use Rattle.formats.specs.declared.format.Format.the-variants.{System}
-use Rattle.intake.specs.Paper.{wrongAt, stripped, stripping, afterwards}
+use Rattle.paper.specs.Paper.{wrongAt, stripped, stripping, afterwards}
 use Rattle.intake.specs.Lines.{cutAfter, byForm, byFormat, byWord, lineVerdict, GoodLine}
 
 step : (l : List ℕ) (i : ℕ) → i < length l → cutAfter (take i l) (drop i l) ≡ cond (eqb (getD l i 0) 32) (Some (take i l, drop (i + 1) l)) (cutAfter (take i l ++ getD l i 0 ∷ []) (drop (i + 1) l))

@@ -1,2 +1,5 @@
+pub mod Feeding
 pub mod Judged
-pub mod Machine
+pub mod Kept
+pub mod Steps
+pub mod Tallies

@@ -5,9 +5,11 @@
 --   inputLines   the lines of a whole input: the last may lack its end, but nothing after a line end is no line
 --   verdicts     what the first million lines answer
 --   Counts       totals that count these verdicts
+--   Noted        totals before and after one more verdict
+--   Closed       an intake before and after its open line ends
 --   Reads        what an intake holds after some bytes
 use mathlib.Core.Path.{_≡_}
-use mathlib.Core.Bool.{Bool, true, false, cond, not, _&&_}
+use mathlib.Core.Bool.{Bool, false, cond, _&&_}
 use mathlib.Core.List.{List, [], _∷_, _++_, map}
 use Prim.Native.Nat.{ℕ, _+_, _<_}
 use lib.Dec.{eqb, ltb}
@@ -58,12 +60,25 @@ pub record Counts (t : Totals) (ls : List (List ℕ)) : Type 0 where
   pub ok : t .ok ≡ countBy isOk (verdicts ls)
   pub refused : t .refused ≡ countBy isErr (verdicts ls)
 
+-- what a verdict adds to the count of those that pass: one, while fewer than a million are counted
+abbrev pub adds : Bool → Totals → ℕ
+adds passes t = cond (ltb (t .ok + t .refused) mostLines && passes) 1 0
+
+pub record Noted (before : Totals) (v : Result (Unit {0}) Fault) (after : Totals) : Type 0 where
+  pub ok : after .ok ≡ before .ok + adds (isOk v) before
+  pub refused : after .refused ≡ before .refused + adds (isErr v) before
+
 -- the bytes of a line that are kept: one more than a line may have, so that a line that is too long stays too long
 abbrev pub keptBytes : ℕ
 keptBytes = 129
 
 abbrev pub lineBytes : Line → List ℕ
 lineBytes l = take (l .kept) (l .bytes)
+
+pub record Closed (before : Intake) (v : Result (Unit {0}) Fault) (after : Intake) : Type 0 where
+  pub verdict : v ≡ lineVerdict (lineBytes (before .line))
+  pub line : lineBytes (after .line) ≡ []
+  pub totals : Noted (before .totals) v (after .totals)
 
 pub record Reads (i : Intake) (bytes : List ℕ) : Type 0 where
   pub counts : Counts (i .totals) (fed bytes .0)

@@ -18,7 +18,7 @@ use Rattle.alphabet.specs.declared.fault.Fault.{Fault}
 use Rattle.alphabet.specs.declared.fault.Refusal.the-variants.{Width, Format as NoFormat}
 use Rattle.formats.specs.Formats.{wordOf, formatOf, formatVerdict, FormatValid}
 use Rattle.formats.specs.declared.format.Format.{Format}
-use Rattle.intake.specs.Paper.{wrongAt, stripped, stripping}
+use Rattle.paper.specs.Paper.{wrongAt, stripped, stripping}
 
 abbrev pub longest : ℕ
 longest = 128

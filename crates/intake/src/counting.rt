@@ -1,11 +1,9 @@
 ghost use mathlib.Core.Path.{_≡_};
-ghost use mathlib.Core.Bool.{not};
 ghost use mathlib.Core.List.{List, [], _∷_, _++_};
-ghost use Prim.Native.Nat.{ℕ, _+_, _<_, _≤_};
+ghost use Prim.Native.Nat.{ℕ, _+_};
 ghost use lib.Dec.{leb};
 ghost use lib.ListN.{length, take};
-ghost use Rattle.intake.specs.Lines.{lineVerdict};
-ghost use Rattle.intake.specs.Inputs.{mostLines, keptBytes, lineBytes, fed, inputLines, Split, Counts, Reads, told, toldLast};
+ghost use Rattle.intake.specs.Inputs.{mostLines, keptBytes, lineBytes, fed, inputLines, Split, Counts, Noted, Closed, Reads, told, toldLast};
 use crate::held::Intake;
 use crate::held::Line;
 use crate::held::Totals;
@@ -80,7 +78,9 @@ impl Totals {
     }
 
     // Counts one more verdict, of the line after those that are counted.
-    fn note(&mut self, verdict: &Result<(), Fault>) {
+    fn note(&mut self, verdict: &Result<(), Fault>)
+        ensures { λ _. ⌜ Noted (now (self .entry)) (now (verdict .entry)) (now (self .exit)) ⌝ }
+    {
         if self.lines() < MOST_LINES {
             match verdict {
                 Ok(()) => self.ok += 1,
@@ -109,6 +109,16 @@ impl Intake {
         self.totals.lines() >= MOST_LINES
     }
 
+    // Ends the open line and counts its verdict; the next line is empty.
+    fn close_line(&mut self) -> Result<(), Fault>
+        ensures { λ r. ⌜ Closed (now (self .entry)) r (now (self .exit)) ⌝ }
+    {
+        let verdict = judge(self.line.bytes());
+        self.line.clear();
+        self.totals.note(&verdict);
+        verdict
+    }
+
     /// Reads one more byte. Answers the verdict of the line that it ends, if it ends one of the first million.
     pub fn byte(&mut self, byte: u8) -> Option<Result<(), Fault>>
         ensures { λ r. ⌜ ((bytes : List ℕ) → Reads (now (self .entry)) bytes → Reads (now (self .exit)) (bytes ++ byte ∷ []) × (r ≡ told bytes byte)) ⌝ }
@@ -120,10 +130,7 @@ impl Intake {
             self.line.push(byte);
             return None;
         }
-        let verdict = judge(self.line.bytes());
-        self.line.clear();
-        self.totals.note(&verdict);
-        Some(verdict)
+        Some(self.close_line())
     }
 
     /// Reads the end of the input. Answers the verdict of a last line that lacks its end; the totals are then those of
@@ -134,10 +141,7 @@ impl Intake {
         if self.full() || self.line.bytes().is_empty() {
             return None;
         }
-        let verdict = judge(self.line.bytes());
-        self.line.clear();
-        self.totals.note(&verdict);
-        Some(verdict)
+        Some(self.close_line())
     }
 
     /// The totals of the lines so far.
@@ -145,5 +149,64 @@ impl Intake {
         ensures { λ r. ⌜ r ≡ now (self .entry) .totals ⌝ }
     {
         self.totals
+    }
+}
+
+#[cfg(test)]
+mod tests {
+    use super::*;
+    use std::test::*;
+
+    fn fed(input: &[u8]) -> Intake {
+        let mut intake = Intake::new();
+        for byte in input {
+            intake.byte(*byte);
+        }
+        intake
+    }
+
+    // Lines, ok and refused of a whole input.
+    fn totals(input: &[u8]) -> (u32, u32, u32) {
+        let mut intake = fed(input);
+        intake.finish();
+        let totals = intake.totals();
+        (totals.lines(), totals.ok(), totals.refused())
+    }
+
+    // The number of the refusal of the last line, which lacks its end; else 0.
+    fn last_refusal(input: &[u8]) -> u8 {
+        match fed(input).finish() {
+            Some(Err(fault)) => fault.refusal.number(),
+            _ => 0,
+        }
+    }
+
+    #[test]
+    fn counts_the_lines() -> Result<(), Fail> {
+        check_eq(
+            totals(b"MOD11-2 07940\nMOD11-2 07941\n\nMOD97-10 79444"),
+            (4, 2, 2),
+        )?;
+        check_eq(totals(b"MOD11-2 07940\n"), (1, 1, 0))?;
+        check_eq(totals(b""), (0, 0, 0))
+    }
+
+    #[test]
+    fn holds_to_the_longest_line() -> Result<(), Fail> {
+        check_eq(last_refusal(&[b'A'; 128]), 12)?;
+        check_eq(last_refusal(&[b'A'; 129]), 1)?;
+        check_eq(last_refusal(&[b'A'; 300]), 1)
+    }
+
+    #[test]
+    fn reads_a_million_lines() -> Result<(), Fail> {
+        let mut intake = Intake::new();
+        for _ in 0..MOST_LINES {
+            check(!intake.full())?;
+            check(intake.byte(b'\n').is_some())?;
+        }
+        check(intake.full())?;
+        check(intake.byte(b'\n').is_none())?;
+        check_eq(intake.totals().lines(), MOST_LINES)
     }
 }

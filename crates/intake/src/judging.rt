@@ -5,11 +5,11 @@ ghost use Rattle.std.specs.Options.{Cases as BySome};
 ghost use Rattle.std.specs.Results.{Cases};
 ghost use Rattle.std.specs.declared.option.Option.the-variants.{Some, None};
 ghost use Rattle.intake.specs.Lines.{cutAfter, lineVerdict, GoodLine};
-use crate::paper::strip;
 use alphabet::Fault;
 use alphabet::Refusal;
 use alphabet::WIDEST;
 use formats::Format;
+use paper::strip;
 
 /// The most bytes that a line may have, its end not counted.
 pub const LONGEST: usize = 128;

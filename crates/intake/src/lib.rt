@@ -1,9 +1,7 @@
-//! From the bytes of a file to verdicts: paper forms, lines and totals.
+//! From the bytes of a file to verdicts: lines and totals.
 mod counting;
 mod held;
 mod judging;
-mod paper;
-mod state;
 
 pub use counting::MOST_LINES;
 pub use held::Intake;
@@ -11,4 +9,3 @@ pub use held::Line;
 pub use held::Totals;
 pub use judging::LONGEST;
 pub use judging::judge;
-pub use paper::strip;

@@ -12,9 +12,9 @@ use Rattle.std.proofs.shelf.Elements.{kept-by-more}
 use Rattle.std.proofs.shelf.Lists.{length-push, length-set, take-more-set}
 use Rattle.std.proofs.shelf.Tests.{cond-true, cond-false, or-left, or-right, or-from, and-from, and-left, and-right, lt-ltb}
 use Rattle.alphabet.specs.Characters.{isCharacter}
-use Rattle.intake.specs.Paper.{isGap, right, firstFailing, wrongAt, stripped}
-use Rattle.intake.specs.declared.state.State.{State}
-use Rattle.intake.specs.declared.state.State.the-variants.{Start, InGroup, AfterGap}
+use Rattle.paper.specs.Paper.{isGap, right, firstFailing, wrongAt, stripped}
+use Rattle.paper.specs.declared.state.State.{State}
+use Rattle.paper.specs.declared.state.State.the-variants.{Start, InGroup, AfterGap}
 
 -- the first wrong place from index k on
 abbrev pub wrongFrom : List ℕ → ℕ → Option ℕ

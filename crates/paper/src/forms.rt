@@ -9,7 +9,7 @@ ghost use Rattle.std.specs.declared.option.Option.the-variants.{Some, None};
 ghost use Rattle.alphabet.specs.Characters.{isCharacter};
 ghost use Rattle.alphabet.specs.Faults.{answer, faultAt};
 ghost use Rattle.alphabet.specs.declared.fault.Refusal.the-variants.{Stray};
-ghost use Rattle.intake.specs.Paper.{isGap, wrongAt, stripped, stripping, afterwards};
+ghost use Rattle.paper.specs.Paper.{isGap, wrongAt, stripped, stripping, afterwards};
 use crate::state::Class;
 use crate::state::State;
 use alphabet::Fault;
@@ -85,31 +85,22 @@ pub fn strip(form: &[u8], buffer: &mut [u8]) -> Result<usize, Fault>
 #[cfg(test)]
 mod tests {
     use super::*;
+    use alphabet::FaultDebug;
+    use alphabet::FaultPartialEq;
     use std::test::*;
-
-    fn parts(fault: Fault) -> (u8, usize, usize) {
-        (fault.refusal.number(), fault.layer, fault.place)
-    }
-
-    fn tried(form: &[u8], buffer: &mut [u8]) -> Result<usize, (u8, usize, usize)> {
-        match strip(form, buffer) {
-            Ok(width) => Ok(width),
-            Err(fault) => Err(parts(fault)),
-        }
-    }
 
     fn refused(form: &[u8], fault: Fault) -> Result<(), Fail> {
         let mut buffer = [7; 40];
-        check_eq(tried(form, &mut buffer), Err(parts(fault)))?;
+        check_eq(strip(form, &mut buffer), Err(fault))?;
         check_eq(buffer, [7; 40])
     }
 
     #[test]
     fn keeps_the_characters() -> Result<(), Fail> {
         let mut buffer = [7; 14];
-        check_eq(tried(b"BE68 5390-0754", &mut buffer), Ok(12))?;
+        check_eq(strip(b"BE68 5390-0754", &mut buffer), Ok(12))?;
         check_eq(buffer, *b"BE6853900754\x07\x07")?;
-        check_eq(tried(b"*", &mut buffer), Ok(1))?;
+        check_eq(strip(b"*", &mut buffer), Ok(1))?;
         check_eq(buffer, *b"*E6853900754\x07\x07")
     }
 
@@ -128,11 +119,10 @@ mod tests {
         refused(b"", Fault::whole(Refusal::Width))?;
         refused(&[b'9'; 35], Fault::whole(Refusal::Width))?;
         let mut room = [7; 34];
-        check_eq(tried(&[b'9'; 34], &mut room), Ok(34))?;
-        check_eq(room, [b'9'; 34])?;
+        check_eq(strip(&[b'9'; 34], &mut room), Ok(34))?;
         check_eq(
-            tried(b"12-3", &mut room[..2]),
-            Err(parts(Fault::whole(Refusal::Short))),
+            strip(b"12-3", &mut room[..2]),
+            Err(Fault::whole(Refusal::Short)),
         )?;
         check_eq(room, [b'9'; 34])
     }

@@ -8,11 +8,11 @@ use lib.ListN.{length, getD}
 use Rattle.std.specs.declared.option.Option.the-variants.{Some}
 use Rattle.std.proofs.shelf.Lists.{take-all, getD-past}
 use Rattle.alphabet.specs.Characters.{isCharacter}
-use Rattle.intake.specs.Paper.{isGap, stripped}
-use Rattle.intake.specs.declared.state.State.the-variants.{InGroup, AfterGap}
-use Rattle.intake.proofs.Machine.{Stands, Reading, lost-gap, stray, finished, written, counted-only, passed}
-use Rattle.intake.proofs.paper.gather.Needs.{in-rest-Character, then-width-lt-WIDEST, else-width-lt-WIDEST, in-InGroup-Gap}
-use Rattle.intake.proofs.paper.gather.Needs as need
+use Rattle.paper.specs.Paper.{isGap, stripped}
+use Rattle.paper.specs.declared.state.State.the-variants.{InGroup, AfterGap}
+use Rattle.paper.proofs.Machine.{Stands, Reading, lost-gap, stray, finished, written, counted-only, passed}
+use Rattle.paper.proofs.forms.gather.Needs.{in-rest-Character, then-width-lt-WIDEST, else-width-lt-WIDEST, in-InGroup-Gap}
+use Rattle.paper.proofs.forms.gather.Needs as need
 
 pub returns-in-rest : need.returns-in-rest
 returns-in-rest c =
