@@ -1,6 +1,8 @@
 //! Reads lines from standard input, each a format word, a space and a number, and prints a verdict a line and the totals.
-ghost use mathlib.Core.Path.{_≡_};
-ghost use lib.ListN.{length};
+ghost use mathlib.Core.List.{List, _++_};
+ghost use Prim.Native.Nat.{ℕ};
+ghost use Rattle.std.specs.Vec.{made};
+ghost use Rattle.intake.specs.Inputs.{Reads};
 use alphabet::Fault;
 use intake::Intake;
 use std::io;
@@ -32,8 +34,10 @@ fn print_totals<W: Write>(out: &mut W, intake: &Intake) -> io::Result<()> {
     writeln!(out, "lines {lines} ok {ok} refused {refused}")
 }
 
-// Feeds a block to the intake and prints the verdict of each line that ends in it.
-fn feed<W: Write>(out: &mut W, intake: &mut Intake, block: &[u8]) -> io::Result<()> {
+// Feeds a block to the intake, every byte in its turn, and prints the verdict of each line that ends in it.
+fn feed<W: Write>(out: &mut W, intake: &mut Intake, block: &[u8]) -> io::Result<()>
+    ensures { λ r. ⌜ made r (λ _. (bytes : List ℕ) → Reads (now (intake .entry)) bytes → Reads (now (intake .exit)) (bytes ++ now (block .entry))) ⌝ }
+{
     for byte in block {
         if let Some(verdict) = intake.byte(*byte) {
             print_verdict(out, intake.totals().lines(), verdict)?;
