@@ -4,7 +4,7 @@ use mathlib.Core.Bool.{true}
 use Prim.Native.Nat.{ℕ, _<_}
 use native.Mathlib.Omega.{arith}
 use Rattle.std.proofs.shelf.Ways.{tells}
-use Rattle.std.specs.declared.option.Option.the-variants.{Some, None}
+use Rattle.std.specs.declared.option.Option.the-variants.{Some}
 use Rattle.alphabet.specs.Characters.{isCharacter}
 use Rattle.alphabet.specs.Counts.{size, countOf, symbolOf}
 use Rattle.alphabet.specs.declared.counts.Alphabet.{Alphabet}

@@ -7,7 +7,7 @@
 --   narrow       a turned text of fewer than five characters
 --   charactersOf the characters that a reading in the program's hands holds
 --   opening      the first refusal of a text before any scheme reads it: width, stray byte, narrow turned text
-use mathlib.Core.Bool.{Bool, true, false, cond, _||_}
+use mathlib.Core.Bool.{Bool, false, cond, _||_}
 use mathlib.Core.List.{List, [], _∷_, _++_}
 use Prim.Native.Nat.{ℕ, _+_, _-_, _≤_}
 use lib.Dec.{leb, ltb, eqb}

@@ -1,7 +1,7 @@
 -- Remainders by one modulus: what may be added, multiplied and cancelled.
-use mathlib.Core.Path.{_≡_, refl, sym, ap, _∙_}
-use Prim.Native.Nat.{ℕ, zero, suc, _+_, _-_, _*_, _/_, _%_, _≤_, _<_}
-use native.Mathlib.Nat.{add-comm, mod-lt, mod-eq-of-lt, mod-add-mod, add-mod-mod, add-mul-mod-self-left, mul-add-mod-self-left, div-add-mod}
+use mathlib.Core.Path.{_≡_, sym, ap, _∙_}
+use Prim.Native.Nat.{ℕ, zero, suc, _+_, _-_, _*_, _/_, _%_, _<_}
+use native.Mathlib.Nat.{add-comm, mod-eq-of-lt, mod-add-mod, add-mul-mod-self-left, div-add-mod}
 use native.Mathlib.Omega.{arith}
 use Rattle.engine.specs.Remainders.{Inverse}
 

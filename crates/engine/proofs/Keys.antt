@@ -1,6 +1,6 @@
 -- The laws of keys by remainder, over any modulus and any start of the key range.
-use mathlib.Core.Path.{_≡_, refl, sym, ap, _∙_}
-use Prim.Native.Nat.{ℕ, _+_, _-_, _*_, _/_, _%_, _≤_, _<_}
+use mathlib.Core.Path.{_≡_, sym, ap, _∙_}
+use Prim.Native.Nat.{ℕ, _+_, _-_, _*_, _/_, _%_, _<_}
 use native.Mathlib.Nat.{mod-lt, mod-eq-of-lt, add-mod-mod, add-mul-mod-self-left, div-add-mod}
 use native.Mathlib.Omega.{arith}
 use Rattle.engine.specs.Remainders.{Inverse, keyFrom, KeyFor}

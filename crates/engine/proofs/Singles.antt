@@ -1,9 +1,9 @@
 -- An engine that keeps its rules is a lawful scheme.
 use mathlib.Core.Path.{_≡_, refl, sym, ap, subst, _∙_}
-use mathlib.Core.Logic.{_⊎_, inl, inr}
-use mathlib.Core.Bool.{Bool, true, false, cond, not, _&&_}
+use mathlib.Core.Logic.{inl}
+use mathlib.Core.Bool.{Bool, true, false, cond, not}
 use mathlib.Core.List.{List, [], _∷_, _++_}
-use Prim.Native.Nat.{ℕ, suc, _+_, _-_, _<_, _≤_}
+use Prim.Native.Nat.{ℕ, _+_, _-_, _<_, _≤_}
 use native.Mathlib.Omega.{arith}
 use borrow.Rule.Slice.PartMut.{putMid}
 use lib.Dec.{eqb, ltb, leb}
@@ -13,16 +13,17 @@ use Rattle.std.specs.Options.{isSome, mapped}
 use Rattle.std.specs.declared.option.Option.{Option}
 use Rattle.std.specs.declared.option.Option.the-variants.{Some, None}
 use Rattle.std.proofs.shelf.Elements.{all-append, all-take}
-use Rattle.std.proofs.shelf.Lists.{append-nil, drop-all, drop-drop, ext-getD, getD-append-left, length-take-le}
+use Rattle.std.proofs.shelf.Lists.{append-nil, drop-all, drop-at, ext-getD, getD-append-left}
 use Rattle.std.proofs.shelf.Tests.{and-left, and-right, eq-eqb}
 use Rattle.std.proofs.shelf.Ways.{tells}
 use Rattle.alphabet.specs.Characters.{isCharacter}
-use Rattle.alphabet.specs.Faults.{faultAt, first, whenever, orElse}
+use Rattle.alphabet.specs.Faults.{faultAt, first, whenever}
 use Rattle.alphabet.specs.Readings.{Text}
 use Rattle.alphabet.specs.declared.fault.Fault.{Fault}
 use Rattle.alphabet.specs.declared.fault.Refusal.the-variants.{Width, Kind, Key, Remainder}
-use Rattle.scheme.specs.Meaning.{Meaning, Accepted, Agree, FaultOf, OfLayer, Lawful, runBy, width, kind, key, remainder}
-use Rattle.engine.specs.Rules.{Rules, uncounted, misfit, body, before, last, filled, single, Keeps, Sealed}
+use Rattle.scheme.specs.Meaning.{Accepted, Agree, FaultOf, Lawful, runBy, width, kind, key, remainder}
+use Rattle.engine.proofs.Searches.{uncounted-append}
+use Rattle.engine.specs.Rules.{Rules, uncounted, misfit, body, before, last, filled, single, Keeps, Keyed, Sealed}
 
 -- a character that is not allowed stands at one of the places
 stopped : (e : Rules) (w k p : ℕ) (c : ℕ) (cs : List ℕ) → (uncounted e w (k + 1) cs ≡ Some p → p < (k + 1) + length cs) → (b : Bool) → cond b (uncounted e w (k + 1) cs) (Some k) ≡ Some p → p < k + length (c ∷ cs)
@@ -177,16 +178,39 @@ module _ (e : Rules) (keeps : Keeps e) where
 
   -- what filling leaves in the program's hands: the key written over the last places
   pub written : (xs y : List ℕ) (n v : ℕ) → n ≡ e .keys → e .takes (length xs) ≡ true → v ≡ runBy (e .next) (length xs) 1 (e .start) (take (length xs - n) xs) →
-      (length (take (length xs - (length xs - n)) (drop (length xs - n) xs)) ≡ e .keys → y ≡ e .key (length xs) v) →
+      y ≡ cond (eqb (length (take (length xs - (length xs - n)) (drop (length xs - n) xs))) (e .keys)) (e .key (length xs) v) (take (length xs - (length xs - n)) (drop (length xs - n) xs)) →
       putMid (length xs - n) (length xs - (length xs - n)) xs y ≡ filled e xs
   written xs y n v q t r told =
       let wide = keeps .wide (length xs) t .0 in
-      let len : length (take (length xs - (length xs - n)) (drop (length xs - n) xs)) ≡ e .keys = simp (length-take, length-drop) (omega arith) in
-      let yk = told len in
+      let part = take (length xs - (length xs - n)) (drop (length xs - n) xs) in
+      let len : length part ≡ e .keys = simp (length-take, length-drop) (omega arith) in
+      let yk : y ≡ e .key (length xs) v = told ∙ ap (λ (b : Bool). cond b (e .key (length xs) v) part) (eq-eqb (length part) (e .keys) len) in
       let rest : drop (length xs - (length xs - n)) (drop (length xs - n) xs) ≡ [] = drop-all (length xs - (length xs - n)) (drop (length xs - n) xs) (simp length-drop (omega arith)) in
       let none = append-nil y in
       let f = filled-by e xs true t in
       cc
 
+  -- with its key, a reading whose other characters are allowed is accepted
+  key-accepted : (r : List ℕ) → e .takes (length r) ≡ true → uncounted e (length r) 1 (body e r) ≡ None → Accepted (single e) (filled e r)
+  key-accepted r t u =
+      let f = filled-by e r true t in
+      let key = e .key (length r) (before e r) in
+      let k = keeps .key-good r t in
+      let l = length-filled r true t in
+      let lb = length-body r in
+      let place : 1 + length (body e r) ≡ 1 + (length r - e .keys) = omega arith in
+      let rest : drop (length r - e .keys) (filled e r) ≡ key = ap (drop (length r - e .keys)) f ∙ drop-at (body e r) key (length r - e .keys) lb in
+      let end : uncounted e (length r) (1 + length (body e r)) key ≡ None =
+          ap (λ (j : ℕ). uncounted e (length r) j key) place ∙ ap (uncounted e (length r) (1 + (length r - e .keys))) (sym rest) ∙ k .counted in
+      let none : uncounted e (length (filled e r)) 1 (filled e r) ≡ None =
+          ap (λ (w : ℕ). uncounted e w 1 (filled e r)) l ∙ ap (uncounted e (length r) 1) f ∙ uncounted-append e (length r) 1 (body e r) key u ∙ end in
+      let takes : e .takes (length (filled e r)) ≡ true = ap (e .takes) l ∙ t in
+      let range = k .inRange in
+      let fits : misfit e (filled e r) ≡ None = grind (arith, tells) in
+      accepted-by e (filled e r) fits (k .good)
+
   pub sealed : (r s : List ℕ) → s ≡ filled e r → Sealed e r s
-  sealed r s q t u = let P : List ℕ → Type 0 = λ xs. Accepted (single e) xs in subst P (sym q) (keeps .key-good r t u)
+  sealed r s q = record {
+    keyed = λ t. let P : List ℕ → Type 0 = λ xs. Keyed e r xs in subst P (sym q) (keeps .key-good r t);
+    accepted = λ t u. let P : List ℕ → Type 0 = λ xs. Accepted (single e) xs in subst P (sym q) (key-accepted r t u);
+  }

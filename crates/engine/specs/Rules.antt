@@ -3,6 +3,7 @@
 --   uncounted  the first place, from k on, of a character that is not allowed there
 --   misfit     the first fault of a reading that is not fit: width, kind, key out of range
 --   single     the meaning of an engine as a scheme
+--   Keyed      a reading with the key that belongs to it
 --   Sealed     what filling the key promises of the reading afterwards
 --   Keeps      what the rules of an engine keep, from which the laws of a scheme follow
 use mathlib.Core.Path.{_≡_}
@@ -75,6 +76,12 @@ single e = record {
   keyed = filled e;
 }
 
+-- the characters of the key are allowed, it is in range, and the last running value is good
+pub record Keyed (e : Rules) (r s : List ℕ) : Type 0 where
+  pub counted : uncounted e (length r) (1 + (length r - e .keys)) (drop (length r - e .keys) s) ≡ None
+  pub inRange : e .inRange s ≡ true
+  pub good : last e s ≡ e .good
+
 pub record Keeps (e : Rules) : Type 0 where
   pub keyed : 1 ≤ e .keys
   -- a width has room for the key and a character before it
@@ -82,11 +89,12 @@ pub record Keeps (e : Rules) : Type 0 where
   pub injective : (w k c u v : ℕ) → Step w k c → Running (single e) u → Running (single e) v → e .next w k u c ≡ e .next w k v c → u ≡ v
   pub key-length : (w v : ℕ) → length (e .key w v) ≡ e .keys
   pub key-characters : (w v : ℕ) → Characters (e .key w v)
-  -- the key in range that belongs to the running value before it makes the reading accepted
-  pub key-good : (r : List ℕ) → e .takes (length r) ≡ true → uncounted e (length r) 1 (body e r) ≡ None → Accepted (single e) (filled e r)
+  -- whatever stands before it, the key is in range and makes the last running value good
+  pub key-good : (r : List ℕ) → e .takes (length r) ≡ true → Keyed e r (filled e r)
   -- the key of an accepted reading is the one that belongs to its running value
   pub key-only : (r : List ℕ) → Text r → misfit e r ≡ None → last e r ≡ e .good → drop (length r - e .keys) r ≡ e .key (length r) (before e r)
 
--- where the engine has the width and counts every character before the key, the reading with its key is accepted
-abbrev pub Sealed : Rules → List ℕ → List ℕ → Type 0
-Sealed e r s = e .takes (length r) ≡ true → uncounted e (length r) 1 (body e r) ≡ None → Accepted (single e) s
+-- at a width that the engine has, the reading has its key; where the characters before it are allowed too, it is accepted
+pub record Sealed (e : Rules) (r s : List ℕ) : Type 0 where
+  pub keyed : e .takes (length r) ≡ true → Keyed e r s
+  pub accepted : e .takes (length r) ≡ true → uncounted e (length r) 1 (body e r) ≡ None → Accepted (single e) s

@@ -1,10 +1,13 @@
 ghost use mathlib.Core.Path.{_≡_};
+ghost use mathlib.Core.Bool.{cond};
+ghost use lib.Dec.{eqb};
 ghost use lib.ListN.{length};
 ghost use Rattle.engine.specs.Rules.{Rules, Keeps};
 
 /// A single scheme that ends in a key and counts with numbers, by its rules.
 ///
-/// The author shows that the rules keep what an engine keeps; the laws of a scheme follow from that.
+/// The author shows that the rules keep what an engine keeps; the laws of a scheme follow from that. The methods have other
+/// names than those of `Scheme`, so that a type can be both and a call still says which it means.
 pub trait Engine {
     ghost rules: { Self → Rules };
 
@@ -38,7 +41,8 @@ pub trait Engine {
     fn step(&self, width: usize, place: usize, value: u16, character: u8) -> u16
         ensures { λ r. ⌜ r ≡ rules (now (self .entry)) .next width place value character ⌝ };
 
-    /// Writes the key that belongs to the running value before it.
+    /// Writes the key that belongs to the running value before it, into a slice of the key's length; a slice of another
+    /// length stays as it is.
     fn write_key(&self, width: usize, value: u16, key: &mut [u8])
-        ensures { λ _. ⌜ (length (now (key .entry)) ≡ rules (now (self .entry)) .keys → now (key .exit) ≡ rules (now (self .entry)) .key width value) ⌝ };
+        ensures { λ _. ⌜ now (key .exit) ≡ cond (eqb (length (now (key .entry))) (rules (now (self .entry)) .keys)) (rules (now (self .entry)) .key width value) (now (key .entry)) ⌝ };
 }

@@ -3,6 +3,6 @@ mod engines;
 mod shared;
 
 pub use engines::Engine;
+pub use shared::accepts;
 pub use shared::fill;
 pub use shared::fits;
-pub use shared::judge;

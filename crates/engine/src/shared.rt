@@ -1,5 +1,5 @@
 ghost use mathlib.Core.Path.{_≡_};
-ghost use Prim.Native.Nat.{ℕ, _+_, _-_, _<_, _≤_};
+ghost use Prim.Native.Nat.{_+_, _-_, _<_};
 ghost use lib.ListN.{length};
 ghost use Rattle.alphabet.specs.Faults.{answer};
 ghost use Rattle.scheme.specs.Meaning.{runBy};
@@ -48,7 +48,7 @@ pub fn fits<E: Engine>(engine: &E, reading: &[u8]) -> bool
 
 /// Accepts a reading whose last running value is `last`, or answers its first fault; where it is fit, that is the
 /// remainder.
-pub fn judge<E: Engine>(engine: &E, reading: &[u8], last: u16) -> Result<(), Fault>
+pub fn accepts<E: Engine>(engine: &E, reading: &[u8], last: u16) -> Result<(), Fault>
     ensures { λ r. ⌜ (last ≡ lastOf (rules (now (engine .entry))) (now (reading .entry)) → r ≡ answer tt (single (rules (now (engine .entry))) .fault (now (reading .entry)))) ⌝ }
 {
     fitness(engine, reading)?;

@@ -13,7 +13,7 @@ use Rattle.std.proofs.shelf.Sums.{folded-push}
 use Rattle.std.proofs.shelf.Tests.{cond-true, cond-false, cond-both, lt-ltb, le-ltb, and-from, and-left, and-right}
 use Rattle.alphabet.specs.declared.fault.Fault.{Fault}
 use Rattle.intake.specs.Lines.{lineVerdict}
-use Rattle.intake.specs.Inputs.{mostLines, taken, fed, inputLines, orNone, keptBytes, lineBytes, Counts, Noted, Closed, Reads, told, toldLast}
+use Rattle.intake.specs.Inputs.{mostLines, taken, fed, inputLines, orNone, endedInput, keptBytes, lineBytes, Counts, Noted, Closed, Reads, told, toldLast}
 use Rattle.intake.specs.declared.held.Intake.{Intake}
 use Rattle.intake.proofs.Feeding.{ends, goes-on, or-none, or-one}
 use Rattle.intake.proofs.Kept.{kept-more, kept-verdict}
@@ -84,22 +84,24 @@ at-full i bytes b r w =
 
 -- the end of the input, after a million lines
 pub last-full : (i : Intake) (bytes : List ℕ) → Reads i bytes → mostLines ≤ length (fed bytes .0) →
-    Counts (i .totals) (inputLines bytes) × (None ≡ toldLast bytes)
+    Reads i (endedInput bytes) × Counts (i .totals) (inputLines bytes) × (None ≡ toldLast bytes)
 last-full i bytes r w =
     let ls = fed bytes .0 in
     let l = fed bytes .1 in (
+      cond-both (ltb 0 (length l)) (bytes ++ 10 ∷ []) bytes (Reads i) (λ _. at-full i bytes 10 r w .0) (λ _. r),
       stand (i .totals) ls (orNone l) (r .counts) w,
       sym (cond-false (ltb 0 (length l) && ltb (length ls) mostLines) _ _ (and-right (ltb 0 (length l)) _ (le-ltb (length ls) mostLines w))),
     )
 
 -- where the input ends with a line end, or is empty
 pub last-none : (i : Intake) (bytes : List ℕ) → Reads i bytes → length (fed bytes .0) < mostLines →
-    length (lineBytes (i .line)) ≡ 0 → Counts (i .totals) (inputLines bytes) × (None ≡ toldLast bytes)
+    length (lineBytes (i .line)) ≡ 0 → Reads i (endedInput bytes) × Counts (i .totals) (inputLines bytes) × (None ≡ toldLast bytes)
 last-none i bytes r w h =
     let ls = fed bytes .0 in
     let l = fed bytes .1 in
     let n : length l ≡ 0 = omega (arith, ap length (r .line w), length-take keptBytes l) in
     let same : ls ++ orNone l ≡ ls = ap (λ xs. ls ++ xs) (or-none l n) ∙ append-nil ls in (
+      subst (Reads i) (sym (cond-false (ltb 0 (length l)) (bytes ++ 10 ∷ []) bytes (le-ltb 0 (length l) (omega arith)))) r,
       subst (Counts (i .totals)) (sym same) (r .counts),
       sym (cond-false (ltb 0 (length l) && ltb (length ls) mostLines) _ _ (and-left _ _ (le-ltb 0 (length l) (omega arith)))),
     )
@@ -107,12 +109,13 @@ last-none i bytes r w h =
 -- where the last line lacks its end
 pub last-line : (i i′ : Intake) (v : Result (Unit {0}) Fault) (bytes : List ℕ) → Reads i bytes →
     length (fed bytes .0) < mostLines → 0 < length (lineBytes (i .line)) → Closed i v i′ →
-    Counts (i′ .totals) (inputLines bytes) × (Some v ≡ toldLast bytes)
+    Reads i′ (endedInput bytes) × Counts (i′ .totals) (inputLines bytes) × (Some v ≡ toldLast bytes)
 last-line i i′ v bytes r w k h =
     let ls = fed bytes .0 in
     let l = fed bytes .1 in
     let n : 0 < length l = omega (arith, ap length (r .line w), length-take keptBytes l) in
     let same : ls ++ orNone l ≡ ls ++ l ∷ [] = ap (λ xs. ls ++ xs) (or-one l n) in (
+      subst (Reads i′) (sym (cond-true (ltb 0 (length l)) (bytes ++ 10 ∷ []) bytes (lt-ltb 0 (length l) n))) (at-end i i′ v bytes r w h .0),
       subst (Counts (i′ .totals)) (sym same) (closed-counts i i′ v bytes r w h),
       ap Some (closed-verdict i i′ v bytes r w h)
           ∙ sym (cond-true (ltb 0 (length l) && ltb (length ls) mostLines) _ _ (and-from _ _ (lt-ltb 0 (length l) n) (lt-ltb (length ls) mostLines w))),

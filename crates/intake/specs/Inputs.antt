@@ -88,6 +88,10 @@ pub record Reads (i : Intake) (bytes : List ℕ) : Type 0 where
 abbrev pub told : List ℕ → ℕ → Option (Result (Unit {0}) Fault)
 told bytes b = cond (eqb b 10 && ltb (length (fed bytes .0)) mostLines) (Some (lineVerdict (fed bytes .1))) None
 
+-- the input with its last line ended
+abbrev pub endedInput : List ℕ → List ℕ
+endedInput bytes = cond (ltb 0 (length (fed bytes .1))) (bytes ++ 10 ∷ []) bytes
+
 -- the answer to the end of the input: the verdict of a last line that lacks its end
 abbrev pub toldLast : List ℕ → Option (Result (Unit {0}) Fault)
 toldLast bytes = cond (ltb 0 (length (fed bytes .1)) && ltb (length (fed bytes .0)) mostLines) (Some (lineVerdict (fed bytes .1))) None

@@ -4,7 +4,7 @@
 --   lineVerdict  what a line answers: too long; no word or an unknown one; a form that cannot be stripped; the check
 --   GoodLine     the lines that are ok
 use mathlib.Core.Path.{_≡_}
-use mathlib.Core.Bool.{Bool, cond}
+use mathlib.Core.Bool.{cond}
 use mathlib.Core.List.{List, [], _∷_, _++_}
 use Prim.Native.Nat.{ℕ, _≤_}
 use lib.Dec.{eqb, ltb}

@@ -1,9 +1,9 @@
 ghost use mathlib.Core.Path.{_≡_};
 ghost use mathlib.Core.List.{List, [], _∷_, _++_};
-ghost use Prim.Native.Nat.{ℕ, _+_};
+ghost use Prim.Native.Nat.{ℕ, _+_, min};
 ghost use lib.Dec.{leb};
 ghost use lib.ListN.{length, take};
-ghost use Rattle.intake.specs.Inputs.{mostLines, keptBytes, lineBytes, fed, inputLines, Split, Counts, Noted, Closed, Reads, told, toldLast};
+ghost use Rattle.intake.specs.Inputs.{mostLines, keptBytes, lineBytes, fed, inputLines, endedInput, Split, Counts, Noted, Closed, Reads, told, toldLast};
 use crate::held::Intake;
 use crate::held::Line;
 use crate::held::Totals;
@@ -72,7 +72,8 @@ impl Totals {
 
     /// How many lines were read: those that were ok and those that were refused.
     pub fn lines(&self) -> u32
-        ensures { λ r. ⌜ r ≡ now (self .entry) .ok + now (self .entry) .refused ⌝ }
+        ensures sum { λ r. ⌜ r ≡ now (self .entry) .ok + now (self .entry) .refused ⌝ }
+        ensures lines { λ r. ⌜ ((ls : List (List ℕ)) → Counts (now (self .entry)) ls → r ≡ min mostLines (length ls)) ⌝ }
     {
         self.ok + self.refused
     }
@@ -136,7 +137,7 @@ impl Intake {
     /// Reads the end of the input. Answers the verdict of a last line that lacks its end; the totals are then those of
     /// the whole input.
     pub fn finish(&mut self) -> Option<Result<(), Fault>>
-        ensures { λ r. ⌜ ((bytes : List ℕ) → Reads (now (self .entry)) bytes → Counts (now (self .exit) .totals) (inputLines bytes) × (r ≡ toldLast bytes)) ⌝ }
+        ensures { λ r. ⌜ ((bytes : List ℕ) → Reads (now (self .entry)) bytes → Reads (now (self .exit)) (endedInput bytes) × Counts (now (self .exit) .totals) (inputLines bytes) × (r ≡ toldLast bytes)) ⌝ }
     {
         if self.full() || self.line.bytes().is_empty() {
             return None;

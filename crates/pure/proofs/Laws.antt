@@ -1,34 +1,31 @@
 -- The pure systems keep what an engine keeps: one argument over modulus, radix, alphabets and the start of the key range.
 use mathlib.Core.Path.{_≡_, refl, sym, ap, subst, _∙_}
-use mathlib.Core.Bool.{Bool, true, false, cond, _&&_, not}
+use mathlib.Core.Bool.{Bool, true, false, cond, not}
 use mathlib.Core.List.{List, [], _∷_, _++_}
 use Prim.Native.Nat.{ℕ, zero, suc, _+_, _-_, _*_, _/_, _%_, _≤_, _<_}
 use native.Mathlib.Nat.{mod-lt, div-add-mod, mod-eq-of-lt, zero-mul, mul-comm, mul-add-mod-self-left}
 use native.Mathlib.Omega.{arith}
-use lib.Dec.{ltb, leb, eqb}
 use lib.ListN.{length, getD, take, drop, length-append, length-take, length-drop, take-append-drop}
 use Rattle.std.proofs.shelf.Bits.{div-below, div-mul-add}
 use Rattle.std.proofs.shelf.Ways.{tells}
-use Rattle.std.proofs.shelf.Tests.{and-parts}
 use Rattle.std.proofs.shelf.Lists.{length-push, getD-push, getD-at, getD-append-right, take-at, drop-at}
 use Rattle.std.specs.Options.{valueOr, isSome}
 use Rattle.std.specs.declared.option.Option.{Option}
 use Rattle.std.specs.declared.option.Option.the-variants.{Some, None}
 use Rattle.alphabet.specs.Counts.{size, countOf, symbolOf}
-use Rattle.alphabet.specs.Readings.{Text}
 use Rattle.alphabet.specs.declared.counts.Alphabet.{Alphabet}
 use Rattle.alphabet.specs.declared.counts.Alphabet.the-variants.{Digits, DigitsX, Letters, Alphanumeric, Full}
 use Rattle.alphabet.specs.declared.fault.Fault.{Fault}
-use Rattle.alphabet.specs.Characters.{Characters, isCharacter}
+use Rattle.alphabet.specs.Characters.{Characters}
 use Rattle.alphabet.proofs.Alphabets.{count-symbol, count-below, symbol-count, symbol-character}
-use Rattle.scheme.specs.Meaning.{Meaning, Accepted, Step, Running, at-start, stepped, runBy}
+use Rattle.scheme.specs.Meaning.{Accepted, Step, Running, at-start, stepped, runBy}
 use Rattle.scheme.proofs.Runs.{run-append}
-use Rattle.engine.specs.Remainders.{Inverse, keyFrom, KeyFor}
-use Rattle.engine.specs.Rules.{Rules, uncounted, misfit, body, before, last, filled, single, Keeps}
+use Rattle.engine.specs.Remainders.{Inverse, KeyFor}
+use Rattle.engine.specs.Rules.{Rules, uncounted, misfit, body, before, last, filled, single, Keyed, Keeps}
 use Rattle.engine.proofs.Singles.{takes-of}
 use Rattle.engine.proofs.Searches.{uncounted-front, uncounted-append}
 use Rattle.engine.proofs.Keys.{step-injective, two-steps, key-from, key-only}
-use Rattle.pure.specs.Systems.{parametersOf, keysOf, takesOf, inKey, countAt, stepCount, nextOf, numberBy, keyNumber, inRangeOf, shifted, keyAfter, symbolsBy, rulesBy, rulesOf}
+use Rattle.pure.specs.Systems.{parametersOf, keysOf, takesOf, inKey, countAt, stepCount, nextOf, keyNumber, inRangeOf, shifted, keyAfter, symbolsBy, rulesBy, rulesOf}
 use Rattle.pure.specs.declared.parameters.KeyLength.{KeyLength}
 use Rattle.pure.specs.declared.parameters.KeyLength.the-variants.{One, Two}
 use Rattle.pure.specs.declared.parameters.Parameters.{Parameters}
@@ -163,26 +160,27 @@ module _ (m r : ℕ) (a k : Alphabet) (s : ℕ) (h : Sound (with-length m r a k 
         let sym1 = symbol-count k c (n .0) (n .1) in
         rest1 ∙ ap (λ (x : ℕ). x ∷ []) (sym sym1 ∙ ap (symbolOf k) same)
 
-    -- and the one key makes it accepted
-    good1 : uncounted e1 (length whole1) 1 ys ≡ None → c ≡ symbolOf k (keyAfter p1 (runBy (nextOf p1) (length whole1) 1 0 ys)) → Accepted (single e1) whole1
-    good1 u q =
-        let v = runBy (nextOf p1) (length whole1) 1 0 ys in
+    -- and the one key makes the last running value good
+    good1 : (v : ℕ) → v ≡ runBy (nextOf p1) (length whole1) 1 0 ys → c ≡ symbolOf k (keyAfter p1 v) →
+        (uncounted e1 (length whole1) (1 + (length whole1 - 1)) (drop (length whole1 - 1) whole1) ≡ None) × (inRangeOf p1 whole1 ≡ true) × (last e1 whole1 ≡ 1)
+    good1 v q qc =
         let n = keyAfter p1 v in
         let for = key-for p1 h v in
         let room = h .room in
         let lo = for .low in
         let hi = for .high in
         let small : n < size k = omega arith in
-        let count : countOf k c ≡ Some n = ap (countOf k) q ∙ count-symbol k n small in
+        let count : countOf k c ≡ Some n = ap (countOf k) qc ∙ count-symbol k n small in
         let is : valueOr (countOf k c) 0 ≡ n = ap (λ (o : Option ℕ). valueOr o 0) count in
         let w = wide1 in
-        let place : length whole1 ≡ 1 + length ys = omega arith in
-        let here : isSome (countAt p1 (length whole1) (1 + length ys) c) ≡ true = ap (λ (j : ℕ). isSome (countAt p1 (length whole1) j c)) (sym place) ∙ ap isSome (count1 ∙ count) in
-        let none : uncounted e1 (length whole1) 1 whole1 ≡ None = uncounted-append e1 (length whole1) 1 ys (c ∷ []) u ∙ ap (λ (b : Bool). cond b None (Some (1 + length ys))) here in
+        let place : 1 + (length whole1 - 1) ≡ length whole1 = omega arith in
+        let here : isSome (countAt p1 (length whole1) (1 + (length whole1 - 1)) c) ≡ true =
+            ap (λ (j : ℕ). isSome (countAt p1 (length whole1) j c)) place ∙ ap isSome (count1 ∙ count) in
         let num : keyNumber p1 whole1 ≡ n = number1 ∙ is in
         let range : inRangeOf p1 whole1 ≡ true = grind (arith, tells) in
-        let fits : misfit e1 whole1 ≡ None = grind (arith, tells) in
-        record { fit = ap (λ (f : Option Fault). not (isSome f)) fits; good = value1 ∙ ap (λ (x : ℕ). (r * v + x) % m) is ∙ for .good }
+        (ap (uncounted e1 (length whole1) (1 + (length whole1 - 1))) rest1 ∙ ap (λ (b : Bool). cond b None (Some (1 + (length whole1 - 1)))) here,
+         range,
+         value1 ∙ ap (λ (x : ℕ). (r * runBy (nextOf p1) (length whole1) 1 0 ys + x) % m) is ∙ ap (λ (x : ℕ). (r * x + n) % m) (sym q) ∙ for .good)
 
 -- the two counts of a number in base r
 quotient : (r a b : ℕ) → b < r → (r * a + b) / r ≡ a
@@ -264,14 +262,15 @@ module _ (m r : ℕ) (a k : Alphabet) (s : ℕ) (h : Sound (with-length m r a k 
           sym (ap isSome (count2 ((1 + length ys) + 1) d (omega arith) (omega arith))) ∙ two .0,
         )
 
-    counted-both : uncounted e2 (length whole2) 1 ys ≡ None → isSome (countOf k c) ≡ true → isSome (countOf k d) ≡ true → uncounted e2 (length whole2) 1 whole2 ≡ None
-    counted-both u pc pd =
+    counted-both : isSome (countOf k c) ≡ true → isSome (countOf k d) ≡ true → uncounted e2 (length whole2) (1 + (length whole2 - 2)) (drop (length whole2 - 2) whole2) ≡ None
+    counted-both pc pd =
         let w = wide2 in
-        let one = ap isSome (count2 (1 + length ys) c (omega arith) (omega arith)) ∙ pc in
-        let two = ap isSome (count2 ((1 + length ys) + 1) d (omega arith) (omega arith)) ∙ pd in
-        uncounted-append e2 (length whole2) 1 ys (c ∷ d ∷ []) u
-        ∙ ap (λ (b : Bool). cond b (uncounted e2 (length whole2) ((1 + length ys) + 1) (d ∷ [])) (Some (1 + length ys))) one
-        ∙ ap (λ (b : Bool). cond b None (Some ((1 + length ys) + 1))) two
+        let j = 1 + (length whole2 - 2) in
+        let one = ap isSome (count2 j c (omega arith) (omega arith)) ∙ pc in
+        let two = ap isSome (count2 (j + 1) d (omega arith) (omega arith)) ∙ pd in
+        ap (uncounted e2 (length whole2) j) rest2
+        ∙ ap (λ (b : Bool). cond b (uncounted e2 (length whole2) (j + 1) (d ∷ [])) (Some j)) one
+        ∙ ap (λ (b : Bool). cond b None (Some (j + 1))) two
 
     only2 : misfit e2 whole2 ≡ None → last e2 whole2 ≡ 1 → drop (length whole2 - 2) whole2 ≡ symbolsBy Two p2 (keyAfter p2 (before e2 whole2))
     only2 q g =
@@ -296,11 +295,11 @@ module _ (m r : ℕ) (a k : Alphabet) (s : ℕ) (h : Sound (with-length m r a k 
         let ds = ap (symbolOf k) two ∙ symbol-count k d (j .0) (j .1) in
         rest2 ∙ ap (λ (x : ℕ). x ∷ d ∷ []) (sym cs) ∙ ap (λ (x : ℕ). symbolOf k (n / r) ∷ x ∷ []) (sym ds)
 
-    good2 : uncounted e2 (length whole2) 1 ys ≡ None → (n : ℕ) → n ≡ keyAfter p2 (runBy (nextOf p2) (length whole2) 1 0 ys) → c ≡ symbolOf k (n / r) → d ≡ symbolOf k (n % r) → Accepted (single e2) whole2
-    good2 u n q qc qd =
-        let v = runBy (nextOf p2) (length whole2) 1 0 ys in
-        let P : ℕ → Type 0 = λ x. KeyFor m s (r * (r * v)) 1 x in
-        let for = subst P (sym q) (key-for p2 h v) in
+    good2 : (v : ℕ) → v ≡ runBy (nextOf p2) (length whole2) 1 0 ys → c ≡ symbolOf k (keyAfter p2 v / r) → d ≡ symbolOf k (keyAfter p2 v % r) →
+        (uncounted e2 (length whole2) (1 + (length whole2 - 2)) (drop (length whole2 - 2) whole2) ≡ None) × (inRangeOf p2 whole2 ≡ true) × (last e2 whole2 ≡ 1)
+    good2 v q qc qd =
+        let n = keyAfter p2 v in
+        let for = key-for p2 h v in
         let room = h .room in
         let lo = for .low in
         let hi = for .high in
@@ -310,12 +309,12 @@ module _ (m r : ℕ) (a k : Alphabet) (s : ℕ) (h : Sound (with-length m r a k 
         let cc1 : countOf k c ≡ Some (n / r) = ap (countOf k) qc ∙ count-symbol k (n / r) one in
         let cc2 : countOf k d ≡ Some (n % r) = ap (countOf k) qd ∙ count-symbol k (n % r) two in
         let is : made2 ≡ n =
-        ap (λ (o : Option ℕ). r * valueOr o 0 + valueOr (countOf k d) 0) cc1 ∙ ap (λ (o : Option ℕ). r * (n / r) + valueOr o 0) cc2 ∙ div-add-mod n r in
-        let none = counted-both u (ap isSome cc1) (ap isSome cc2) in
+            ap (λ (o : Option ℕ). r * valueOr o 0 + valueOr (countOf k d) 0) cc1 ∙ ap (λ (o : Option ℕ). r * (n / r) + valueOr o 0) cc2 ∙ div-add-mod n r in
         let num : keyNumber p2 whole2 ≡ n = number2 ∙ is in
         let range : inRangeOf p2 whole2 ≡ true = grind (arith, tells) in
-        let fits : misfit e2 whole2 ≡ None = grind (arith, tells) in
-        record { fit = ap (λ (f : Option Fault). not (isSome f)) fits; good = value2 ∙ ap (λ (x : ℕ). (r * (r * v) + x) % m) is ∙ for .good }
+        (counted-both (ap isSome cc1) (ap isSome cc2),
+         range,
+         value2 ∙ ap (λ (x : ℕ). (r * (r * runBy (nextOf p2) (length whole2) 1 0 ys) + x) % m) is ∙ ap (λ (x : ℕ). (r * (r * x) + n) % m) (sym q) ∙ for .good)
 
 -- a list of one, and of two
 pub one-left : (zs : List ℕ) → length zs ≡ 1 → (c : ℕ) × (zs ≡ c ∷ [])
@@ -342,6 +341,14 @@ length-filled-at p h xs t =
     let l = symbols-length (p .length) p (keyAfter p (before (rulesBy p) xs)) in
     length-append (body (rulesBy p) xs) (symbolsBy (p .length) p (keyAfter p (before (rulesBy p) xs))) ∙ simp length-take (omega arith)
 
+keyed-at : (p : Parameters) (xs zs : List ℕ) → filled (rulesBy p) xs ≡ zs → length zs ≡ length xs →
+    (uncounted (rulesBy p) (length zs) (1 + (length zs - keysOf (p .length))) (drop (length zs - keysOf (p .length)) zs) ≡ None) × (inRangeOf p zs ≡ true) × (last (rulesBy p) zs ≡ 1) →
+    Keyed (rulesBy p) xs (filled (rulesBy p) xs)
+keyed-at p xs zs f len (u, range, good) =
+    let U : ℕ → Type 0 = λ w. uncounted (rulesBy p) w (1 + (w - keysOf (p .length))) (drop (w - keysOf (p .length)) zs) ≡ None in
+    let K : List ℕ → Type 0 = λ ys. Keyed (rulesBy p) xs ys in
+    subst K (sym f) (record { counted = subst U len u; inRange = range; good = good })
+
 abbrev Only : Parameters → List ℕ → Type 0
 Only p zs = takesOf p (length zs) ≡ true → misfit (rulesBy p) zs ≡ None → last (rulesBy p) zs ≡ 1 → drop (length zs - keysOf (p .length)) zs ≡ symbolsBy (p .length) p (keyAfter p (before (rulesBy p) zs))
 
@@ -356,27 +363,25 @@ module _ (m r : ℕ) (a k : Alphabet) (s : ℕ) where
       let e = sym (ap (λ (zs : List ℕ). take (length xs - 2) xs ++ zs) (c .2)) ∙ take-append-drop (length xs - 2) xs in
       subst (Only (with-length m r a k s Two)) e (only2 m r a k s h (take (length xs - 2) xs) (c .0) (c .1)) t
 
+  -- filling a reading, seen as one that ends in its key
   good-by : (l : KeyLength) (h : Sound (with-length m r a k s l)) (xs : List ℕ) → takesOf (with-length m r a k s l) (length xs) ≡ true →
-      uncounted (rulesBy (with-length m r a k s l)) (length xs) 1 (body (rulesBy (with-length m r a k s l)) xs) ≡ None →
-      Accepted (single (rulesBy (with-length m r a k s l))) (filled (rulesBy (with-length m r a k s l)) xs)
-  good-by One h xs t u =
+      Keyed (rulesBy (with-length m r a k s l)) xs (filled (rulesBy (with-length m r a k s l)) xs)
+  good-by One h xs t =
       let p = with-length m r a k s One in
       let ys = body (rulesBy p) xs in
-      let len = sym (length-filled-at p h xs t) in
+      let len = length-filled-at p h xs t in
       let T : ℕ → Type 0 = λ w. takesOf p w ≡ true in
-      let U : ℕ → Type 0 = λ w. uncounted (rulesBy p) w 1 ys ≡ None in
-      let A : List ℕ → Type 0 = λ zs. Accepted (single (rulesBy p)) zs in
-      subst A (sym (filled-at p xs t))
-      (good1 m r a k s h ys _ (subst T len t) (subst U len u) (ap (λ (w : ℕ). symbolOf k (keyAfter p (runBy (nextOf p) w 1 0 ys))) len))
-  good-by Two h xs t u =
+      let zs = ys ++ symbolsBy One p (keyAfter p (before (rulesBy p) xs)) in
+      let g = good1 m r a k s h ys _ (subst T (sym len) t) (before (rulesBy p) xs) (ap (λ (w : ℕ). runBy (nextOf p) w 1 0 ys) (sym len)) refl in
+      keyed-at p xs zs (filled-at p xs t) len g
+  good-by Two h xs t =
       let p = with-length m r a k s Two in
       let ys = body (rulesBy p) xs in
-      let len = sym (length-filled-at p h xs t) in
+      let len = length-filled-at p h xs t in
       let T : ℕ → Type 0 = λ w. takesOf p w ≡ true in
-      let U : ℕ → Type 0 = λ w. uncounted (rulesBy p) w 1 ys ≡ None in
-      let A : List ℕ → Type 0 = λ zs. Accepted (single (rulesBy p)) zs in
-      subst A (sym (filled-at p xs t))
-      (good2 m r a k s h ys _ _ (subst T len t) (subst U len u) (keyAfter p (before (rulesBy p) xs)) (ap (λ (w : ℕ). keyAfter p (runBy (nextOf p) w 1 0 ys)) len) refl refl)
+      let zs = ys ++ symbolsBy Two p (keyAfter p (before (rulesBy p) xs)) in
+      let g = good2 m r a k s h ys _ _ (subst T (sym len) t) (before (rulesBy p) xs) (ap (λ (w : ℕ). runBy (nextOf p) w 1 0 ys) (sym len)) refl refl in
+      keyed-at p xs zs (filled-at p xs t) len g
 
   pub keeps-by : (l : KeyLength) → Sound (with-length m r a k s l) → Keeps (rulesBy (with-length m r a k s l))
   keeps-by l h =

@@ -1,7 +1,7 @@
 ghost use mathlib.Core.Path.{_≡_};
 ghost use mathlib.Core.Bool.{cond};
-ghost use Prim.Native.Nat.{ℕ, _+_, _-_, _*_, _%_, _<_, _≤_};
-ghost use lib.ListN.{length, getD};
+ghost use Prim.Native.Nat.{_+_, _-_, _*_, _%_, _<_, _≤_};
+ghost use lib.ListN.{length};
 ghost use Rattle.alphabet.specs.Counts.{size, symbolOf};
 ghost use Rattle.engine.specs.Rules.{single};
 ghost use Rattle.pure.specs.Systems.{parametersOf, keysOf, takesOf, inKey, stepCount, keyNumber, keyAfter, rulesOf};
@@ -12,16 +12,16 @@ use alphabet::Alphabet;
 use alphabet::Fault;
 use alphabet::WIDEST;
 use engine::Engine;
+use engine::accepts;
 use engine::fill;
 use engine::fits;
-use engine::judge;
 use scheme::Scheme;
 
 impl Pure {
     /// The parameters of the system.
     pub fn parameters(self) -> Parameters
         ensures value { λ r. ⌜ r ≡ parametersOf self ⌝ }
-        ensures positive { λ r. ⌜ 0 < r .modulus ⌝ }
+        ensures positive { λ r. ⌜ (0 < r .modulus) × (0 < r .radix) ⌝ }
     {
         match self {
             Pure::Mod11R2 => Parameters {
@@ -125,7 +125,8 @@ impl Parameters {
     }
 }
 
-// The character of a count, which the alphabet is known to have where the count is below its size.
+// The character of a count below the alphabet's size. Any other count is never asked for; it has to be given some answer,
+// since nothing here may panic.
 fn symbol(alphabet: Alphabet, count: u64) -> u8
     ensures { λ r. ⌜ (count < size alphabet → r ≡ symbolOf alphabet count) ⌝ }
 {
@@ -177,15 +178,17 @@ pub impl Engine for Pure as PureEngine {
 
     fn write_key(&self, _width: usize, value: u16, key: &mut [u8]) {
         let parameters = self.parameters();
+        if key.len() != parameters.keys() {
+            return;
+        }
         let number = parameters.key_after(value);
         let radix = u64::from(parameters.radix);
         match parameters.length {
-            KeyLength::One if key.len() == 1 => key[0] = symbol(parameters.key, number),
-            KeyLength::Two if key.len() == 2 && radix > 0 => {
+            KeyLength::One => key[0] = symbol(parameters.key, number),
+            KeyLength::Two => {
                 key[0] = symbol(parameters.key, number / radix);
                 key[1] = symbol(parameters.key, number % radix);
             }
-            _ => {}
         }
     }
 }
@@ -228,7 +231,7 @@ pub impl Scheme for Pure as PureScheme {
     }
 
     fn accept(&self, reading: &[u8], last: u16) -> Result<(), Fault> {
-        judge(self, reading, last)
+        accepts(self, reading, last)
     }
 
     fn key(&self, reading: &mut [u8]) {

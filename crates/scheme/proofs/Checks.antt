@@ -1,23 +1,20 @@
 -- A text is valid exactly where its verdict is good.
-use mathlib.Core.Path.{_≡_, refl, sym, ap, subst, _∙_}
-use mathlib.Core.Bool.{Bool, true, false}
+use mathlib.Core.Path.{_≡_, sym, ap, subst, _∙_}
+use mathlib.Core.Bool.{false}
 use mathlib.Core.List.{List}
 use Prim.Native.Nat.{ℕ}
 use native.Mathlib.Omega.{arith}
 use lib.ListN.{length}
 use Rattle.std.specs.Results.{Cases}
-use Rattle.std.specs.Options.{mapped}
-use Rattle.std.specs.declared.option.Option.{Option}
 use Rattle.std.specs.declared.option.Option.the-variants.{Some, None}
 use Rattle.std.specs.declared.result.Result.{Result}
 use Rattle.std.specs.declared.result.Result.the-variants.{Ok, Err}
-use Rattle.alphabet.specs.Faults.{ofNoLayer, first, whenever, answer, orElse}
-use Rattle.alphabet.specs.Readings.{reading, narrow, inText, opening, Text}
+use Rattle.alphabet.specs.Faults.{answer}
+use Rattle.alphabet.specs.Readings.{reading, inText, opening, Text}
 use Rattle.alphabet.specs.declared.fault.Fault.{Fault}
-use Rattle.alphabet.specs.declared.fault.Refusal.the-variants.{Unfit}
 use Rattle.alphabet.specs.declared.turn.Turn.{Turn}
 use Rattle.alphabet.proofs.Texts.{opening-none, none-opening, reading-text}
-use Rattle.scheme.specs.Meaning.{Meaning, Accepted, Lawful, run}
+use Rattle.scheme.specs.Meaning.{Meaning, Lawful, run}
 use Rattle.scheme.specs.Verdicts.{Valid, verdict}
 
 module _ {V : Type 0} (m : Meaning V) (turn : Turn) (t : List ℕ) (law : m .unfit ≡ false → Lawful m) where

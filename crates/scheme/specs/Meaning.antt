@@ -15,10 +15,9 @@ use lib.ListN.{length, getD}
 use Rattle.std.specs.declared.option.Option.{Option}
 use Rattle.std.specs.declared.option.Option.the-variants.{Some, None}
 use Rattle.alphabet.specs.Characters.{isCharacter}
+use Rattle.alphabet.specs.Faults.{numberOf}
 use Rattle.alphabet.specs.Readings.{Text}
 use Rattle.alphabet.specs.declared.fault.Fault.{Fault}
-use Rattle.alphabet.specs.declared.fault.Refusal.{Refusal}
-use Rattle.alphabet.specs.declared.fault.Refusal.the-variants.{Width, Kind, Prefix, Key, Remainder}
 
 pub record Meaning (V : Type 0) : Type 0 where
   -- whether it is no scheme at all, as some piles are; a single scheme always is one
@@ -72,16 +71,16 @@ pub record Agree {V : Type 0} (m : Meaning V) (x y : List ℕ) : Type 0 where
   pub width : length x ≡ length y
   pub same : (k : ℕ) → 1 ≤ k → k ≤ length x → m .isKey (length x) k ≡ false → getD x (k - 1) 0 ≡ getD y (k - 1) 0
 
--- width, kind, prefix, key or remainder
-pub data OfLayer : Refusal → Type 0 where
-  width : OfLayer Width
-  kind : OfLayer Kind
-  prefix : OfLayer Prefix
-  key : OfLayer Key
-  remainder : OfLayer Remainder
+-- the numbers of the refusals that a layer may answer
+pub data OfLayer : ℕ → Type 0 where
+  width : OfLayer 1
+  kind : OfLayer 3
+  prefix : OfLayer 4
+  key : OfLayer 5
+  remainder : OfLayer 6
 
 pub record FaultOf {V : Type 0} (m : Meaning V) (r : List ℕ) (f : Fault) : Type 0 where
-  pub refusal : OfLayer (f .refusal)
+  pub refusal : OfLayer (numberOf (f .refusal))
   pub outermost : 1 ≤ f .layer
   pub innermost : f .layer ≤ m .layers
   -- 0 for no place, or a place of the reading; where the reading is shorter than five also the next, which it lacks

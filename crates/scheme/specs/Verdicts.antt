@@ -2,7 +2,7 @@
 --   Valid    the text has 1 to 34 characters, five at least if it is turned, and its reading is accepted by the scheme
 --   verdict  the answer to a text: good, or the first refusal in order, with its place in the written text
 use mathlib.Core.Path.{_≡_}
-use mathlib.Core.Bool.{Bool, true, false}
+use mathlib.Core.Bool.{false}
 use mathlib.Core.List.{List, [], _∷_}
 use Prim.Native.Nat.{ℕ}
 use lib.ListN.{length}

@@ -1,7 +1,5 @@
 ghost use mathlib.Core.Path.{_≡_};
-ghost use mathlib.Core.List.{List};
-ghost use Prim.Native.Nat.{ℕ, _+_, _<_, _≤_};
-ghost use lib.ListN.{length};
+ghost use Prim.Native.Nat.{_+_, _<_};
 ghost use Rattle.std.specs.Results.{Cases};
 ghost use Rattle.scheme.specs.Meaning.{run};
 ghost use Rattle.scheme.specs.Verdicts.{Valid, verdict};

@@ -1,6 +1,6 @@
 ghost use mathlib.Core.Path.{_≡_};
-ghost use mathlib.Core.Bool.{Bool, true, false};
-ghost use Prim.Native.Nat.{ℕ, _-_, _^_, min};
+ghost use mathlib.Core.Bool.{false};
+ghost use Prim.Native.Nat.{_-_, _^_, min};
 ghost use Rattle.std.specs.Orderings.{Decides};
 ghost use Rattle.alphabet.specs.Faults.{answer};
 ghost use Rattle.alphabet.specs.Readings.{Text};

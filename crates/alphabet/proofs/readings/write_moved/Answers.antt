@@ -1,8 +1,5 @@
-use borrow.Author.Needs.{needs}
-use mathlib.Core.Path.{_≡_, _∙_}
-use native.Mathlib.Omega.{arith}
+use mathlib.Core.Path.{_∙_}
 use native.Mathlib.Nat.{sub-zero}
-use lib.ListN.{drop, take}
 use Rattle.std.proofs.shelf.Lists.{take-rest}
 use Rattle.alphabet.proofs.Texts.{moved-whole}
 use Rattle.alphabet.proofs.readings.write_moved.Needs as need

@@ -1,6 +1,5 @@
-use mathlib.Core.Path.{_≡_, sym, ap, _∙_}
-use Prim.Native.Nat.{_+_}
-use lib.ListN.{take, drop, getD}
+use mathlib.Core.Path.{sym, _∙_}
+use lib.ListN.{take}
 use native.Mathlib.Nat.{sub-zero}
 use Rattle.std.proofs.shelf.Lists.{at-drop-all, take-rest}
 use Rattle.intake.specs.Lines.{cutAfter}

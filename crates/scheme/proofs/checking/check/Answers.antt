@@ -1,6 +1,5 @@
-use borrow.Author.Needs.{needs}
-use mathlib.Core.Path.{_≡_, refl, sym, _∙_, ap}
-use Rattle.std.specs.declared.result.Result.the-variants.{Ok, Err}
+use mathlib.Core.Path.{sym, _∙_, ap}
+use Rattle.std.specs.declared.result.Result.the-variants.{Err}
 use Rattle.std.proofs.shelf.Results.{err-from-errBy}
 use Rattle.scheme.proofs.Checks.{refused-by, at-opening, at-good, at-fault, refused-not}
 use Rattle.scheme.proofs.checking.check.Needs as need

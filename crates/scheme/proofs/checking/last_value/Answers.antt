@@ -1,6 +1,6 @@
-use mathlib.Core.Path.{_≡_, sym, ap, _∙_}
+use mathlib.Core.Path.{sym, _∙_}
 use Prim.Native.Nat.{_+_}
-use lib.ListN.{length, drop, getD}
+use lib.ListN.{length}
 use Rattle.std.proofs.shelf.Lists.{at-drop-more, at-drop-all}
 use Rattle.scheme.specs.Meaning.{runFrom}
 use Rattle.scheme.proofs.checking.last_value.Needs as need
