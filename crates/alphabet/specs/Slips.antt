@@ -1,4 +1,4 @@
--- Slips: the mistakes that a keyer makes.
+-- Slips: the mistakes that a typist makes.
 --   Slip x y     y is x with one character replaced by another, or with two unequal neighbours exchanged.
 --                Said of texts it is a slip of a text, said of readings a slip of a reading.
 --   lastChanged  the last place, counted from 1, at which the two differ

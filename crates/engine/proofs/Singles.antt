@@ -201,9 +201,9 @@ module _ (e : Rules) (keeps : Keeps e) where
       let place : 1 + length (body e r) ≡ 1 + (length r - e .keys) = omega arith in
       let rest : drop (length r - e .keys) (filled e r) ≡ key = ap (drop (length r - e .keys)) f ∙ drop-at (body e r) key (length r - e .keys) lb in
       let end : uncounted e (length r) (1 + length (body e r)) key ≡ None =
-          ap (λ (j : ℕ). uncounted e (length r) j key) place ∙ ap (uncounted e (length r) (1 + (length r - e .keys))) (sym rest) ∙ k .counted in
+      ap (λ (j : ℕ). uncounted e (length r) j key) place ∙ ap (uncounted e (length r) (1 + (length r - e .keys))) (sym rest) ∙ k .counted in
       let none : uncounted e (length (filled e r)) 1 (filled e r) ≡ None =
-          ap (λ (w : ℕ). uncounted e w 1 (filled e r)) l ∙ ap (uncounted e (length r) 1) f ∙ uncounted-append e (length r) 1 (body e r) key u ∙ end in
+      ap (λ (w : ℕ). uncounted e w 1 (filled e r)) l ∙ ap (uncounted e (length r) 1) f ∙ uncounted-append e (length r) 1 (body e r) key u ∙ end in
       let takes : e .takes (length (filled e r)) ≡ true = ap (e .takes) l ∙ t in
       let range = k .inRange in
       let fits : misfit e (filled e r) ≡ None = grind (arith, tells) in

@@ -10,7 +10,7 @@ use pure::Pure;
 use pure::PureScheme;
 use scheme::check;
 
-// Every format.
+// The formats among which a word is looked for. That none is missing follows from the contract of `named`.
 const EVERY: [Format; 5] = [
     Format::System(Pure::Mod11R2),
     Format::System(Pure::Mod37R2),

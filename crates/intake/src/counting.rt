@@ -13,6 +13,7 @@ use alphabet::Fault;
 /// The most lines that are read of an input.
 pub const MOST_LINES: u32 = 1_000_000;
 
+// One byte more than a line may have, so that a line that is too long stays too long.
 const KEPT: usize = 129;
 
 impl Line {

@@ -175,12 +175,13 @@ module _ (m r : ℕ) (a k : Alphabet) (s : ℕ) (h : Sound (with-length m r a k 
         let w = wide1 in
         let place : 1 + (length whole1 - 1) ≡ length whole1 = omega arith in
         let here : isSome (countAt p1 (length whole1) (1 + (length whole1 - 1)) c) ≡ true =
-            ap (λ (j : ℕ). isSome (countAt p1 (length whole1) j c)) place ∙ ap isSome (count1 ∙ count) in
+        ap (λ (j : ℕ). isSome (countAt p1 (length whole1) j c)) place ∙ ap isSome (count1 ∙ count) in
         let num : keyNumber p1 whole1 ≡ n = number1 ∙ is in
-        let range : inRangeOf p1 whole1 ≡ true = grind (arith, tells) in
-        (ap (uncounted e1 (length whole1) (1 + (length whole1 - 1))) rest1 ∙ ap (λ (b : Bool). cond b None (Some (1 + (length whole1 - 1)))) here,
-         range,
-         value1 ∙ ap (λ (x : ℕ). (r * runBy (nextOf p1) (length whole1) 1 0 ys + x) % m) is ∙ ap (λ (x : ℕ). (r * x + n) % m) (sym q) ∙ for .good)
+        let range : inRangeOf p1 whole1 ≡ true = grind (arith, tells) in (
+          ap (uncounted e1 (length whole1) (1 + (length whole1 - 1))) rest1 ∙ ap (λ (b : Bool). cond b None (Some (1 + (length whole1 - 1)))) here,
+          range,
+          value1 ∙ ap (λ (x : ℕ). (r * runBy (nextOf p1) (length whole1) 1 0 ys + x) % m) is ∙ ap (λ (x : ℕ). (r * x + n) % m) (sym q) ∙ for .good,
+        )
 
 -- the two counts of a number in base r
 quotient : (r a b : ℕ) → b < r → (r * a + b) / r ≡ a
@@ -309,12 +310,13 @@ module _ (m r : ℕ) (a k : Alphabet) (s : ℕ) (h : Sound (with-length m r a k 
         let cc1 : countOf k c ≡ Some (n / r) = ap (countOf k) qc ∙ count-symbol k (n / r) one in
         let cc2 : countOf k d ≡ Some (n % r) = ap (countOf k) qd ∙ count-symbol k (n % r) two in
         let is : made2 ≡ n =
-            ap (λ (o : Option ℕ). r * valueOr o 0 + valueOr (countOf k d) 0) cc1 ∙ ap (λ (o : Option ℕ). r * (n / r) + valueOr o 0) cc2 ∙ div-add-mod n r in
+        ap (λ (o : Option ℕ). r * valueOr o 0 + valueOr (countOf k d) 0) cc1 ∙ ap (λ (o : Option ℕ). r * (n / r) + valueOr o 0) cc2 ∙ div-add-mod n r in
         let num : keyNumber p2 whole2 ≡ n = number2 ∙ is in
-        let range : inRangeOf p2 whole2 ≡ true = grind (arith, tells) in
-        (counted-both (ap isSome cc1) (ap isSome cc2),
-         range,
-         value2 ∙ ap (λ (x : ℕ). (r * (r * runBy (nextOf p2) (length whole2) 1 0 ys) + x) % m) is ∙ ap (λ (x : ℕ). (r * (r * x) + n) % m) (sym q) ∙ for .good)
+        let range : inRangeOf p2 whole2 ≡ true = grind (arith, tells) in (
+          counted-both (ap isSome cc1) (ap isSome cc2),
+          range,
+          value2 ∙ ap (λ (x : ℕ). (r * (r * runBy (nextOf p2) (length whole2) 1 0 ys) + x) % m) is ∙ ap (λ (x : ℕ). (r * (r * x) + n) % m) (sym q) ∙ for .good,
+        )
 
 -- a list of one, and of two
 pub one-left : (zs : List ℕ) → length zs ≡ 1 → (c : ℕ) × (zs ≡ c ∷ [])

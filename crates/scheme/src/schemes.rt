@@ -7,10 +7,10 @@ ghost use Rattle.alphabet.specs.Readings.{Text};
 ghost use Rattle.scheme.specs.Meaning.{Meaning, Lawful, run};
 use alphabet::Fault;
 
-/// A check scheme: an engine, a shape, a pile of two schemes, or one of your own.
+/// A check scheme: one of ours, or one of your own.
 ///
 /// Its author says by `meaning` what it is, shows once that the meaning keeps the laws, and shows of each method
-/// that it answers as the meaning does. Checking, sealing, listing and the register rest on nothing else.
+/// that it answers as the meaning does. Code that works with any scheme rests on nothing else.
 pub trait Scheme {
     type Value: Copy;
 
@@ -18,7 +18,7 @@ pub trait Scheme {
 
     law lawful: { (s : Self) → meaning s .unfit ≡ false → Lawful (meaning s) };
 
-    /// Whether this is no scheme at all, as a pile with too many layers.
+    /// Whether this is no scheme at all, as schemes set one over another may be.
     fn unfit(&self) -> bool
         ensures { λ r. ⌜ r ≡ meaning (now (self .entry)) .unfit ⌝ };
 
