@@ -1,10 +1,11 @@
 -- Verdicts of lines, and totals that count them.
 use mathlib.Core.Path.{_≡_, refl, sym, ap, _∙_}
 use mathlib.Core.Bool.{true, cond, _&&_}
+use mathlib.Core.Logic.{inl, inr}
 use mathlib.Core.List.{List, [], _∷_, _++_, map}
 use Prim.Native.Nat.{ℕ, min, _+_, _≤_, _<_}
 use native.Mathlib.Omega.{arith}
-use lib.Dec.{ltb}
+use lib.Dec.{leb, ltb}
 use lib.ListN.{length, take}
 use Rattle.std.specs.Results.{isOk, isErr}
 use Rattle.std.specs.declared.result.Result.{Result}
@@ -12,7 +13,7 @@ use Rattle.std.specs.declared.result.Result.the-variants.{Ok, Err}
 use Rattle.std.specs.shelf.Lists.{countBy}
 use Rattle.std.proofs.shelf.Lists.{length-push, length-map, length-take, take-all, take-append-le, map-push}
 use Rattle.std.proofs.shelf.Sums.{sumBy-cons, sumBy-push}
-use Rattle.std.proofs.shelf.Tests.{lt-ltb}
+use Rattle.std.proofs.shelf.Tests.{cases-lt, lt-ltb, lt-leb, le-leb}
 use Rattle.intake.specs.Lines.{lineVerdict}
 use Rattle.intake.specs.Inputs.{mostLines, verdicts, Counts, Noted}
 use Rattle.intake.specs.declared.held.Totals.{Totals}
@@ -71,3 +72,11 @@ noted t t′ ls l h w n =
           ∙ ap (λ k. k + cond (isErr v) 1 0) (h .refused)
           ∙ sym (ap (countBy isErr) more ∙ sumBy-push (λ u. cond (isErr u) 1 0) (verdicts ls) v);
     }
+
+-- the count has reached the most lines exactly where the lines have
+pub full-by : (most n k : ℕ) → n ≡ min most k → leb most n ≡ leb most k
+full-by most n k e =
+    elim (cases-lt k most) [
+      | inl below ↦ lt-leb most n (omega arith) ∙ sym (lt-leb most k below)
+      | inr reached ↦ le-leb most n (omega arith) ∙ sym (le-leb most k reached)
+    ]

@@ -1,8 +1,6 @@
-use native.Mathlib.Omega.{arith}
-use Rattle.std.proofs.shelf.Ways.{tells}
-use Rattle.intake.specs.Inputs.{fed}
-use Rattle.intake.proofs.Tallies.{counted}
+use Rattle.intake.specs.Inputs.{mostLines, fed}
+use Rattle.intake.proofs.Tallies.{full-by}
 use Rattle.intake.proofs.held.Intake.full.Needs as need
 
 pub returns : need.returns
-returns c = λ bytes r. let n = counted (c .args .self .now .totals) (fed bytes .0) (r .counts) in grind (arith, tells)
+returns c = λ bytes r. full-by mostLines (c .lines .result) _ (c .lines .ensures .lines (fed bytes .0) (r .counts))
