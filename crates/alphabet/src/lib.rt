@@ -1,4 +1,6 @@
 //! Characters, texts and readings, and the refusals that every call answers by.
+#![tactic(auto)]
+
 mod characters;
 mod counted;
 mod counts;

@@ -1,4 +1,6 @@
 //! Reads lines from standard input, each a format word, a space and a number, and prints a verdict a line and the totals.
+#![tactic(auto)]
+
 ghost use Rattle.std.specs.Prelude.{ℕ, List, ◌++◌, OnOk};
 ghost use Rattle.intake.specs.Inputs.{Reads};
 

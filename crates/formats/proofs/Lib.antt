@@ -1,3 +1,1 @@
-pub mod Checked
-pub mod Examined
 pub mod Naming

@@ -5,10 +5,9 @@ use Rattle.std.specs.Str.{bytes_eq}
 use Rattle.std.proofs.lemmas.Slice.Eq.{bytes_eq-Decides}
 use Rattle.std.proofs.lemmas.List.{at_drop_more}
 use Rattle.std.proofs.lemmas.Bool.Decides.{same_from_decides, not_from_Decides}
-use Rattle.hybrid.specs.declared.system.Hybrid.TheVariants.{Mod11M10, Mod27M26, Mod37M36}
 use Rattle.pure.specs.declared.parameters.Pure.TheVariants.{Mod11R2, Mod37R2, Mod97R10, Mod661R26, Mod1271R36}
 use Rattle.formats.specs.declared.format.Format.{Format}
-use Rattle.formats.specs.declared.format.Format.TheVariants.{PureSystem, HybridSystem, BelgianAccount, FrenchAccount}
+use Rattle.formats.specs.declared.format.Format.TheVariants.{System}
 use Rattle.formats.specs.Formats.{word_of, every, named, format_of}
 
 -- one step, by what the comparison with the word of the format there answered
@@ -39,23 +38,17 @@ exact_in w (f ∷ fs) = exact_step w f fs (bytes_eq w (word_of f)) refl (named w
 
 -- every format is among them
 each : (P : Format → Type 0) → All P every → (f : Format) → P f
-each P h (PureSystem Mod11R2) = h.0
-each P h (PureSystem Mod37R2) = h.1.0
-each P h (PureSystem Mod97R10) = h.1.1.0
-each P h (PureSystem Mod661R26) = h.1.1.1.0
-each P h (PureSystem Mod1271R36) = h.1.1.1.1.0
-each P h (HybridSystem Mod11M10) = h.1.1.1.1.1.0
-each P h (HybridSystem Mod27M26) = h.1.1.1.1.1.1.0
-each P h (HybridSystem Mod37M36) = h.1.1.1.1.1.1.1.0
-each P h BelgianAccount = h.1.1.1.1.1.1.1.1.0
-each P h FrenchAccount = h.1.1.1.1.1.1.1.1.1.0
+each P h (System Mod11R2) = h.0
+each P h (System Mod37R2) = h.1.0
+each P h (System Mod97R10) = h.1.1.0
+each P h (System Mod661R26) = h.1.1.1.0
+each P h (System Mod1271R36) = h.1.1.1.1.0
 
 weaken : (w : List ℕ) (o : Option Format) → Exact w every o → MatchOption o ((f : Format) → word_of f ≡ w → ⊥) (λ f. word_of f ≡ w)
 weaken w None h = each (λ f. word_of f ≡ w → ⊥) h
 weaken w (Some f) h = h
 
 pub exactly : (w : List ℕ) (o : Option Format) → o ≡ format_of w → MatchOption o ((f : Format) → word_of f ≡ w → ⊥) (λ f. word_of f ≡ w)
-unfolding format_of
 exactly w o e =
     let P : Option Format → Type 0 = λ x. MatchOption x ((f : Format) → word_of f ≡ w → ⊥) (λ f. word_of f ≡ w) in
     subst P (sym e) (weaken w (format_of w) (exact_in w every))

@@ -1,9 +1,7 @@
-//! The formats: a word for each, the check of a text by the format's scheme, and known numbers.
-mod example;
+//! The formats: a word for each, and the check of a text by the format's scheme and turn.
+#![tactic(auto)]
+
 mod format;
-mod known;
 mod words;
 
-pub use example::Example;
 pub use format::Format;
-pub use known::examples;

@@ -4,27 +4,20 @@ ghost use Rattle.formats.specs.Formats.{word_of, named, format_of, format_verdic
 
 use crate::format::Format;
 use alphabet::{Fault, Turn};
-use hybrid::Hybrid;
-use national::{BelgianKey, FrenchKey};
 use pure::Pure;
 use scheme::check;
 
 // The formats among which a word is looked for. That none is missing follows from the contract of `named`.
-const EVERY: [Format; 10] = [
-    Format::PureSystem(Pure::Mod11R2),
-    Format::PureSystem(Pure::Mod37R2),
-    Format::PureSystem(Pure::Mod97R10),
-    Format::PureSystem(Pure::Mod661R26),
-    Format::PureSystem(Pure::Mod1271R36),
-    Format::HybridSystem(Hybrid::Mod11M10),
-    Format::HybridSystem(Hybrid::Mod27M26),
-    Format::HybridSystem(Hybrid::Mod37M36),
-    Format::BelgianAccount,
-    Format::FrenchAccount,
+const EVERY: [Format; 5] = [
+    Format::System(Pure::Mod11R2),
+    Format::System(Pure::Mod37R2),
+    Format::System(Pure::Mod97R10),
+    Format::System(Pure::Mod661R26),
+    Format::System(Pure::Mod1271R36),
 ];
 
 // The first of some formats that has a word.
-fn find_named(formats: &[Format], word: &[u8]) -> Option<Format>
+fn search(formats: &[Format], word: &[u8]) -> Option<Format>
     ensures { result ≡ named word.now formats.now }
 {
     for format in formats {
@@ -41,16 +34,11 @@ impl Format {
         ensures { result.now ≡ word_of self }
     {
         match self {
-            Format::PureSystem(Pure::Mod11R2) => b"MOD11-2",
-            Format::PureSystem(Pure::Mod37R2) => b"MOD37-2",
-            Format::PureSystem(Pure::Mod97R10) => b"MOD97-10",
-            Format::PureSystem(Pure::Mod661R26) => b"MOD661-26",
-            Format::PureSystem(Pure::Mod1271R36) => b"MOD1271-36",
-            Format::HybridSystem(Hybrid::Mod11M10) => b"MOD11,10",
-            Format::HybridSystem(Hybrid::Mod27M26) => b"MOD27,26",
-            Format::HybridSystem(Hybrid::Mod37M36) => b"MOD37,36",
-            Format::BelgianAccount => b"BEACC",
-            Format::FrenchAccount => b"FRRIB",
+            Format::System(Pure::Mod11R2) => b"MOD11-2",
+            Format::System(Pure::Mod37R2) => b"MOD37-2",
+            Format::System(Pure::Mod97R10) => b"MOD97-10",
+            Format::System(Pure::Mod661R26) => b"MOD661-26",
+            Format::System(Pure::Mod1271R36) => b"MOD1271-36",
         }
     }
 
@@ -59,7 +47,7 @@ impl Format {
         ensures value { result ≡ format_of word.now }
         ensures exact { MatchOption result ((f : Named) → word_of f ≢ word.now) (λ f. word_of f ≡ word.now) }
     {
-        find_named(&EVERY, word)
+        search(&EVERY, word)
     }
 
     /// Checks a text by the format: `Ok` exactly where the text is valid, else the first refusal in order.
@@ -68,10 +56,7 @@ impl Format {
         ensures exact { MatchResult result (λ _. FormatValid self text.now) (λ _. FormatValid self text.now → ⊥) }
     {
         match self {
-            Format::PureSystem(system) => check(&system, Turn::Straight, text),
-            Format::HybridSystem(system) => check(&system, Turn::Straight, text),
-            Format::BelgianAccount => check(&BelgianKey, Turn::Straight, text),
-            Format::FrenchAccount => check(&FrenchKey, Turn::Straight, text),
+            Format::System(system) => check(&system, Turn::Straight, text),
         }
     }
 }
@@ -79,7 +64,6 @@ impl Format {
 #[cfg(test)]
 mod tests {
     use super::*;
-    use crate::known::examples;
     use alphabet::Refusal;
     use std::process::Abort;
 
@@ -96,13 +80,12 @@ mod tests {
 
     #[test]
     fn accepts_the_examples(rt: HostRuntime) {
-        for example in examples() {
-            assert_eq!(rt; example.format.check(example.number), Ok(()));
-        }
-        assert_eq!(rt; answer(b"MOD11,10", b"07945"), Ok(()));
-        assert_eq!(rt; answer(b"MOD37,36", b"A12425GABC1234002M"), Ok(()));
-        assert_eq!(rt; answer(b"BEACC", b"539007547034"), Ok(()));
-        assert_eq!(rt; answer(b"FRRIB", b"20041010050500013M02606"), Ok(()));
+        assert_eq!(rt; answer(b"MOD11-2", b"07940"), Ok(()));
+        assert_eq!(rt; answer(b"MOD11-2", b"079X"), Ok(()));
+        assert_eq!(rt; answer(b"MOD97-10", b"79444"), Ok(()));
+        assert_eq!(rt; answer(b"MOD37-2", b"G123489654321Y"), Ok(()));
+        assert_eq!(rt; answer(b"MOD661-26", b"BYX"), Ok(()));
+        assert_eq!(rt; answer(b"MOD1271-36", b"1YN"), Ok(()));
     }
 
     #[test]
@@ -115,9 +98,6 @@ mod tests {
         refused(&rt, b"MOD37-2", b"G123489654*21Y", Refusal::Kind, 11);
         refused(&rt, b"MOD661-26", b"CYX", Refusal::Remainder, 0);
         refused(&rt, b"MOD1271-36", b"1Y*", Refusal::Kind, 3);
-        refused(&rt, b"MOD11,10", b"0794", Refusal::Remainder, 0);
-        refused(&rt, b"BEACC", b"000000009700", Refusal::Key, 11);
-        refused(&rt, b"FRRIB", b"2004101A050500013M02606", Refusal::Kind, 8);
     }
 
     #[test]

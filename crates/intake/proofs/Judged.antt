@@ -7,11 +7,10 @@ use Rattle.alphabet.specs.Faults.{of_no_layer, answer}
 use Rattle.alphabet.specs.declared.fault.Refusal.TheVariants.{Width}
 use Rattle.alphabet.specs.Readings.{Text}
 use Rattle.alphabet.specs.declared.fault.Fault.{Fault}
-use Rattle.hybrid.specs.declared.system.Hybrid.TheVariants.{Mod11M10, Mod27M26, Mod37M36}
 use Rattle.pure.specs.declared.parameters.Pure.TheVariants.{Mod11R2, Mod37R2, Mod97R10, Mod661R26, Mod1271R36}
 use Rattle.formats.specs.Formats.{word_of, format_of, format_verdict, FormatValid}
 use Rattle.formats.specs.declared.format.Format.{Format}
-use Rattle.formats.specs.declared.format.Format.TheVariants.{PureSystem, HybridSystem, BelgianAccount, FrenchAccount}
+use Rattle.formats.specs.declared.format.Format.TheVariants.{System}
 use Rattle.paper.specs.Paper.{wrong_at, stripped, stripping, afterwards}
 use Rattle.intake.specs.Lines.{cut_after, by_form, by_format, by_word, line_verdict, GoodLine}
 
@@ -29,34 +28,22 @@ cut_later l i h n =
 
 -- a word of a format has no space in it
 cut_word : (f : Format) (form : List ℕ) → cut_after [] (word_of f ++ (32 ∷ form)) ≡ Some (word_of f, form)
-cut_word (PureSystem Mod11R2) form = refl
-cut_word (PureSystem Mod37R2) form = refl
-cut_word (PureSystem Mod97R10) form = refl
-cut_word (PureSystem Mod661R26) form = refl
-cut_word (PureSystem Mod1271R36) form = refl
-cut_word (HybridSystem Mod11M10) form = refl
-cut_word (HybridSystem Mod27M26) form = refl
-cut_word (HybridSystem Mod37M36) form = refl
-cut_word BelgianAccount form = refl
-cut_word FrenchAccount form = refl
+cut_word (System Mod11R2) form = refl
+cut_word (System Mod37R2) form = refl
+cut_word (System Mod97R10) form = refl
+cut_word (System Mod661R26) form = refl
+cut_word (System Mod1271R36) form = refl
 
 -- and names that format
 word_format : (f : Format) → format_of (word_of f) ≡ Some f
-unfolding format_of
-word_format (PureSystem Mod11R2) = refl
-word_format (PureSystem Mod37R2) = refl
-word_format (PureSystem Mod97R10) = refl
-word_format (PureSystem Mod661R26) = refl
-word_format (PureSystem Mod1271R36) = refl
-word_format (HybridSystem Mod11M10) = refl
-word_format (HybridSystem Mod27M26) = refl
-word_format (HybridSystem Mod37M36) = refl
-word_format BelgianAccount = refl
-word_format FrenchAccount = refl
+word_format (System Mod11R2) = refl
+word_format (System Mod37R2) = refl
+word_format (System Mod97R10) = refl
+word_format (System Mod661R26) = refl
+word_format (System Mod1271R36) = refl
 
 valid_text : (f : Format) (t : List ℕ) → FormatValid f t → Text t
-unfolding FormatValid
-valid_text f t v = v.text
+valid_text (System s) t v = v.text
 
 -- what a good line is cut into, and that its form can be stripped
 pub good_cut : (l : List ℕ) (g : GoodLine l) → cut_after [] l ≡ Some (word_of g.format, g.form)
@@ -90,30 +77,6 @@ strip_ok form w e = (grind arith, grind arith)
 
 none_wrong : (form : List ℕ) → stripping form 34 ≡ None → wrong_at form ≡ None
 none_wrong form e = grind (arith, nat_tests)
-
--- a line whose form cannot be stripped is refused as the form is
-module _ (l word form : List ℕ) (f : Format) (fault : Fault) (short : length l ≤ 128) (cut : cut_after [] l ≡ Some (word, form)) (named : Some f ≡ format_of word)
-    (told : Err fault ≡ answer (length (stripped form)) (stripping form 34)) where
-  not_stripped : stripping form 34 ≡ Some fault
-  not_stripped = grind arith
-
-  pub strip_refuses : line_verdict l ≡ Err fault
-  strip_refuses =
-      let n : ltb 128 (length l) ≡ false = grind (arith, nat_tests) in
-      ap (λ (b : Bool). cond b (Err (of_no_layer Width)) (by_word (cut_after [] l))) n
-      ∙ ap by_word cut ∙ ap (λ (o : Option Format). by_format o form) (sym named) ∙ ap (λ (o : Option Fault). by_form o f form) not_stripped
-
-  not_good : GoodLine l → ⊥
-  not_good g =
-      let c = sym cut ∙ good_cut l g in
-      let same : form ≡ g.form = grind arith in
-      let e = sym not_stripped ∙ ap (λ (xs : List ℕ). stripping xs 34) same ∙ good_strip l g in
-      let z : ◌≡◌ {A = ℕ} 0 1 = cc in
-      omega arith
-
-  pub strip_refused : (r : Result (Unit {0}) Fault) → r ≡ Err fault → MatchResult r (λ _. GoodLine l) (λ _. GoodLine l → ⊥)
-  strip_refused (Ok x) e = absurd (let z : ◌≡◌ {A = ℕ} 0 1 = cc in let n : ⊥ = omega arith in n)
-  strip_refused (Err x) e = not_good
 
 -- a line that is cut, named and stripped is judged by the check of its characters
 module _ (l word form : List ℕ) (f : Format) (w : ℕ) (buffer zeros t : List ℕ) (r : Result (Unit {0}) Fault)

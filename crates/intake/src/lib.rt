@@ -1,4 +1,6 @@
 //! From the bytes of a file to verdicts: lines and totals.
+#![tactic(auto)]
+
 mod counting;
 mod held;
 mod judging;

@@ -1,4 +1,6 @@
 //! Paper forms: numbers as people write them, in groups with gaps between them.
+#![tactic(auto)]
+
 mod forms;
 mod state;
 

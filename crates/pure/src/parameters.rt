@@ -1,5 +1,4 @@
 use alphabet::Alphabet;
-use keys::KeyRange;
 
 /// A pure system, by its modulus and radix.
 #[derive(Clone, Copy)]
@@ -16,16 +15,23 @@ pub enum Pure {
     Mod1271R36,
 }
 
+/// How many characters a key has.
+#[derive(Clone, Copy)]
+pub enum KeyLength {
+    One,
+    Two,
+}
+
 /// What sets one pure system apart from another.
 #[derive(Clone, Copy)]
 pub struct Parameters {
-    /// What remainders are taken by.
     pub modulus: u16,
-    /// What a running value is multiplied by.
     pub radix: u16,
     /// The characters before the key.
     pub body: Alphabet,
-    /// The keys, as many as the modulus has remainders. A key of two characters counts radix × first + second, since the radix
-    /// is the size of its alphabet.
-    pub key: KeyRange,
+    /// The characters of the key.
+    pub key: Alphabet,
+    pub length: KeyLength,
+    /// The least key. From it on there are `modulus` keys.
+    pub least: u16,
 }

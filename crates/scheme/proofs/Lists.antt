@@ -9,7 +9,7 @@ use Rattle.scheme.specs.Meaning.{Accepted, run_by}
 use Rattle.scheme.specs.Rules.{Rules, next_by, uncounted, misfit, single, Keeps}
 use Rattle.scheme.specs.Slips.{value_after}
 use Rattle.scheme.specs.Searches.{first_allowed, uncounted_front, uncounted-append}
-use Rattle.scheme.specs.Singles.{no_misfit, takes_of, front_value, lawful}
+use Rattle.scheme.specs.Singles.{no_misfit, takes-misfit, front_value, lawful}
 use Rattle.scheme.proofs.Slips.{law_of_slips, after_replaced, after_exchanged}
 
 abbrev pub Counted : Rules → ℕ → ℕ → ℕ → Type 0
@@ -29,7 +29,7 @@ module _ (e : Rules) (keeps : Keeps e) (R X : SlipRule) (local : AtOnePlace e R 
   counted_fit : (r : List ℕ) → (single e).fit r ≡ true → (e.takes (length r) ≡ true) × (uncounted e (length r) 1 r ≡ None)
   counted_fit r f =
       let n = no_misfit e r (misfit e r) refl f in
-      let t = takes_of e r n in
+      let t = takes-misfit e r n in
       let u : uncounted e (length r) 1 r ≡ None = grind (arith, nat_tests) in
       (t, u)
 

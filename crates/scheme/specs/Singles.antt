@@ -71,8 +71,8 @@ module _ (e : Rules) where
       ∙ ap (λ (b : Bool). first (None ∷ whenever (not b) (fault_at Remainder 1 0) ∷ [])) g
 
   -- the width of a reading that has no misfit is one that the engine has
-  pub takes_of : (r : List ℕ) → misfit e r ≡ None → e.takes (length r) ≡ true
-  takes_of r h = grind (arith, nat_tests)
+  pub takes-misfit : (r : List ℕ) → misfit e r ≡ None → e.takes (length r) ≡ true
+  takes-misfit r h = grind (arith, nat_tests)
 
   -- filling, by whether the engine has the width
   filled_by : (r : List ℕ) (b : Bool) → e.takes (length r) ≡ b → filled e r ≡ cond b (body e r ++ e.key (length r) (before e r)) r
@@ -178,7 +178,7 @@ module _ (e : Rules) (keeps : Keeps e) where
   -- an accepted reading ends in the key that belongs to it
   key_of : (r : List ℕ) → misfit e r ≡ None → last e r ≡ e.good → KeyOf e (length r) (before e r) (key_part e r)
   key_of r n g =
-      let t = takes_of e r n in
+      let t = takes-misfit e r n in
       let w = (keeps.wide (length r) t).0 in
       let u : uncounted e (length r) 1 r ≡ None = grind (arith, nat_tests) in
       let range : e.in_range (key_part e r) ≡ true = grind (arith, nat_tests) in
@@ -193,7 +193,7 @@ module _ (e : Rules) (keeps : Keeps e) where
   only : (x y : List ℕ) → Text y → Accepted (single e) y → Agree (single e) x y → filled e x ≡ y
   only x y ty acc agree =
       let none = no_misfit e y (misfit e y) refl acc.fit in
-      let t = takes_of e y none in
+      let t = takes-misfit e y none in
       let same = same_body x y agree t in
       let w = agree.width in
       let tx : e.takes (length x) ≡ true = ap e.takes w ∙ t in

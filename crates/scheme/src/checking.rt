@@ -7,7 +7,7 @@ use alphabet::{Fault, Reading, Refusal, Turn};
 
 // The running value after some characters, which are the first ones of a reading of that width.
 pub(crate) fn value_over<S: Scheme>(scheme: &S, width: usize, characters: &[u8]) -> S::Value
-    ensures { result ≡ run_from (meaning scheme.now) width 1 (meaning scheme.now).start characters.now }
+    ensures { result ≡ run_from (S.meaning scheme.now) width 1 (S.meaning scheme.now).start characters.now }
 {
     let mut value = scheme.start();
     for (i, character) in characters.iter().enumerate() {
@@ -18,7 +18,7 @@ pub(crate) fn value_over<S: Scheme>(scheme: &S, width: usize, characters: &[u8])
 
 /// The running value after the last character of a reading.
 pub fn last_value<S: Scheme>(scheme: &S, reading: &[u8]) -> S::Value
-    ensures { result ≡ run (meaning scheme.now) reading.now }
+    ensures { result ≡ run (S.meaning scheme.now) reading.now }
 {
     value_over(scheme, reading.len(), reading)
 }
@@ -28,8 +28,8 @@ pub fn last_value<S: Scheme>(scheme: &S, reading: &[u8]) -> S::Value
 /// The order is: a pile that is no scheme; a width outside 1 to 34; a byte that is no character; a turned text of fewer
 /// than five; then the scheme's first fault, with its place in the written text.
 pub fn check<S: Scheme>(scheme: &S, turn: Turn, text: &[u8]) -> Result<(), Fault>
-    ensures answers { result ≡ verdict (meaning scheme.now) turn text.now }
-    ensures exact { MatchResult result (λ _. Valid (meaning scheme.now) turn text.now) (λ _. Valid (meaning scheme.now) turn text.now → ⊥) }
+    ensures answers { result ≡ verdict (S.meaning scheme.now) turn text.now }
+    ensures exact { MatchResult result (λ _. Valid (S.meaning scheme.now) turn text.now) (λ _. Valid (S.meaning scheme.now) turn text.now → ⊥) }
 {
     if scheme.unfit() {
         return Err(Fault::whole(Refusal::Unfit));

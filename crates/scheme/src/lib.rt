@@ -1,5 +1,7 @@
 //! What a scheme is, the check of a text by any scheme, when a slip passes it, and the engines, which are the schemes that
 //! end in a key and count with numbers.
+#![tactic(auto)]
+
 mod checking;
 mod engines;
 mod schemes;

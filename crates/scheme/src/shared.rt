@@ -8,7 +8,7 @@ use alphabet::{Fault, Refusal};
 
 // The first place of a character that is not allowed there.
 fn first_uncounted<E: Engine>(engine: &E, reading: &[u8]) -> Option<usize>
-    ensures { result ≡ uncounted (rules engine.now) (length reading.now) 1 reading.now }
+    ensures { result ≡ uncounted (E.rules engine.now) (length reading.now) 1 reading.now }
 {
     let width = reading.len();
     for (i, character) in reading.iter().enumerate() {
@@ -21,8 +21,8 @@ fn first_uncounted<E: Engine>(engine: &E, reading: &[u8]) -> Option<usize>
 
 // The characters of the key, at a width that the engine has.
 fn key_part<'r, E: Engine>(engine: &E, reading: &'r [u8]) -> &'r [u8]
-    requires { (rules engine.now).takes (length reading.now) ≡ true }
-    ensures { result.now ≡ key_part (rules engine.now) reading.now }
+    requires { (E.rules engine.now).takes (length reading.now) ≡ true }
+    ensures { result.now ≡ key_part (E.rules engine.now) reading.now }
 {
     let end = reading.len() - engine.keys();
     &reading[end..reading.len()]
@@ -31,7 +31,7 @@ fn key_part<'r, E: Engine>(engine: &E, reading: &'r [u8]) -> &'r [u8]
 // Answers well where a reading is fit for an engine, else its first fault: a width that the engine lacks, a character
 // that is not allowed at its place, a key out of range.
 fn fitness<E: Engine>(engine: &E, reading: &[u8]) -> Result<(), Fault>
-    ensures { result ≡ answer tt (misfit (rules engine.now) reading.now) }
+    ensures { result ≡ answer tt (misfit (E.rules engine.now) reading.now) }
 {
     let width = reading.len();
     if !engine.takes(width) {
@@ -48,7 +48,7 @@ fn fitness<E: Engine>(engine: &E, reading: &[u8]) -> Result<(), Fault>
 
 // Whether a reading is fit for an engine.
 pub(crate) fn fits<E: Engine>(engine: &E, reading: &[u8]) -> bool
-    ensures { result ≡ (single (rules engine.now)).fit reading.now }
+    ensures { result ≡ (single (E.rules engine.now)).fit reading.now }
 {
     fitness(engine, reading).is_ok()
 }
@@ -56,7 +56,7 @@ pub(crate) fn fits<E: Engine>(engine: &E, reading: &[u8]) -> bool
 // Accepts a reading whose last running value is `last`, or answers its first fault; where it is fit, that is the
 // remainder.
 pub(crate) fn accepts<E: Engine>(engine: &E, reading: &[u8], last: u16) -> Result<(), Fault>
-    ensures { last ≡ last_of (rules engine.now) reading.now → result ≡ answer tt ((single (rules engine.now)).fault reading.now) }
+    ensures { last ≡ last_of (E.rules engine.now) reading.now → result ≡ answer tt ((single (E.rules engine.now)).fault reading.now) }
 {
     fitness(engine, reading)?;
     if last != engine.target() {
@@ -73,7 +73,7 @@ pub(crate) fn next_value<E: Engine>(
     value: u16,
     character: u8,
 ) -> u16
-    ensures { result ≡ next_by (rules engine.now) width place value character }
+    ensures { result ≡ next_by (E.rules engine.now) width place value character }
 {
     let count = engine.count(width, place, character).unwrap_or(0);
     engine.step(width, place, value, count)
@@ -81,7 +81,7 @@ pub(crate) fn next_value<E: Engine>(
 
 // The running value before the key of a reading of `width`, after the characters that stand before it.
 fn value_before<E: Engine>(engine: &E, width: usize, characters: &[u8]) -> u16
-    ensures { result ≡ run_by (next_by (rules engine.now)) width 1 (rules engine.now).start characters.now }
+    ensures { result ≡ run_by (next_by (E.rules engine.now)) width 1 (E.rules engine.now).start characters.now }
 {
     let mut value = engine.initial();
     for (i, character) in characters.iter().enumerate() {
@@ -92,8 +92,8 @@ fn value_before<E: Engine>(engine: &E, width: usize, characters: &[u8]) -> u16
 
 /// Writes the one key of a reading into its last places, at a width that the engine has; at any other, nothing.
 pub fn fill<E: Engine>(engine: &E, reading: &mut [u8])
-    ensures after { reading.new ≡ filled (rules engine.now) reading.old }
-    ensures good { Sealed (rules engine.now) reading.old reading.new }
+    ensures after { reading.new ≡ filled (E.rules engine.now) reading.old }
+    ensures good { Sealed (E.rules engine.now) reading.old reading.new }
 {
     let width = reading.len();
     if engine.takes(width) {

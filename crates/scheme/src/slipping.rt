@@ -9,7 +9,7 @@ use crate::schemes::Scheme;
 
 /// The running value after the first `places` characters of a reading, or after all where it has fewer.
 pub fn value_after<S: Scheme>(scheme: &S, reading: &[u8], places: usize) -> S::Value
-    ensures { result ≡ value_after (meaning scheme.now) reading.now places }
+    ensures { result ≡ value_after (S.meaning scheme.now) reading.now places }
 {
     let width = reading.len();
     value_over(scheme, width, &reading[0..places.min(width)])
@@ -33,9 +33,9 @@ fn last_difference(one: &[u8], other: &[u8]) -> usize
 /// What stands behind that place never brings two running values together again. Of two readings that are no such pair, it
 /// answers just that question.
 pub fn slip_passes<S: Scheme>(scheme: &S, reading: &[u8], slip: &[u8]) -> bool
-    ensures answers { Decides result (Passing (meaning scheme.now) reading.now slip.now (last_difference reading.now slip.now)) }
-    ensures exact { (meaning scheme.now).unfit ≡ false → Slip reading.now slip.now → Text reading.now → Accepted (meaning scheme.now) reading.now → Decides result (Accepted (meaning scheme.now) slip.now) }
-    ensures law { (meaning scheme.now).unfit ≡ false → LawOfSlips (meaning scheme.now) }
+    ensures answers { Decides result (Passing (S.meaning scheme.now) reading.now slip.now (last_difference reading.now slip.now)) }
+    ensures exact { (S.meaning scheme.now).unfit ≡ false → Slip reading.now slip.now → Text reading.now → Accepted (S.meaning scheme.now) reading.now → Decides result (Accepted (S.meaning scheme.now) slip.now) }
+    ensures law { (S.meaning scheme.now).unfit ≡ false → LawOfSlips (S.meaning scheme.now) }
 {
     let place = last_difference(reading, slip);
     let before = value_after(scheme, reading, place);

@@ -3,8 +3,8 @@ use Rattle.std.proofs.lemmas.Bool.Decides.{nat_tests}
 use Rattle.alphabet.proofs.Texts.{stray_more, stray_all}
 use Rattle.alphabet.proofs.readings.stray.Goals as goal
 
-pub returns-then-not-is-character : goal.returns-then-not-is-character
-returns-then-not-is-character c =
+pub returns-then-not-is_character : goal.returns-then-not-is_character
+returns-then-not-is_character c =
     let step = stray_more c.args.text.now c.loop-i.i c.loop-i-test.true in
     let inv = c.loop-i.invariant in
     grind (arith, nat_tests)

@@ -5,11 +5,11 @@ use Rattle.alphabet.specs.Characters.{is_character}
 use Rattle.paper.specs.Paper.{is_gap, stripped}
 use Rattle.paper.specs.declared.state.State.TheVariants.{InGroup, AfterGap}
 use Rattle.paper.proofs.Machine.{Stands, Reading, lost_gap, stray, finished, written, counted_only, passed}
-use Rattle.paper.proofs.forms.gather.Goals.{in-default-Character, then-width-lt-WIDEST, else-width-lt-WIDEST, in-InGroup-Gap}
+use Rattle.paper.proofs.forms.gather.Goals.{in_default-Character, then-width-lt-WIDEST, else-width-lt-WIDEST, in-InGroup-Gap}
 use Rattle.paper.proofs.forms.gather.Goals as goal
 
-pub returns-in-default : goal.returns-in-default
-returns-in-default c =
+pub returns-in_default : goal.returns-in_default
+returns-in_default c =
     let form = c.args.form.now in
     let i = c.loop-i.i in
     let e : is_character (get_or form i 0) ≡ false = grind arith in
@@ -35,7 +35,7 @@ loop-i-preserved c =
     let l : i < length form = omega arith in
     let v = c.loop-i.invariant in
     elim c.match-class.branch [
-      | in-default-Character w ↦
+      | in_default-Character w ↦
           let e : is_character (get_or form i 0) ≡ true = grind arith in
           elim w.if-width-lt-WIDEST.branch [
             | then-width-lt-WIDEST w' ↦

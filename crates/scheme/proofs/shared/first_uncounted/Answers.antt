@@ -4,17 +4,17 @@ use Rattle.scheme.specs.Rules.{uncounted}
 use Rattle.scheme.specs.Searches.{stops, goes_on}
 use Rattle.scheme.proofs.shared.first_uncounted.Goals as goal
 
-pub returns-then-is-none : goal.returns-then-is-none
-returns-then-is-none g c =
+pub returns-then-is_none : goal.returns-then-is_none
+returns-then-is_none g c =
     let e = g.E.Engine.rules c.args.engine.now in
     let xs = c.args.reading.now in
-    sym (stops e (length xs) xs c.loop-i.i c.loop-i-test.true c.count.result c.count.ensures c.if-is-none.ensures) ∙ c.loop-i.invariant
+    sym (stops e (length xs) xs c.loop-i.i c.loop-i-test.true c.count.result c.count.ensures c.if-is_none.ensures) ∙ c.loop-i.invariant
 
 pub loop-i-preserved : goal.loop-i-preserved
 loop-i-preserved g c =
     let e = g.E.Engine.rules c.args.engine.now in
     let xs = c.args.reading.now in
-    sym (goes_on e (length xs) xs c.loop-i.i c.loop-i-test.true c.count.result c.count.ensures c.if-is-none.ensures) ∙ c.loop-i.invariant
+    sym (goes_on e (length xs) xs c.loop-i.i c.loop-i-test.true c.count.result c.count.ensures c.if-is_none.ensures) ∙ c.loop-i.invariant
 
 pub returns : goal.returns
 returns g c =

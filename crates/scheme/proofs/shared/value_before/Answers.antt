@@ -8,7 +8,7 @@ pub loop-i-preserved : goal.loop-i-preserved
 loop-i-preserved g c =
     let e = g.E.Engine.rules c.args.engine.now in
     let step = at_drop_more (run_by (next_by e) c.args.width (c.loop-i.i + 1) c.loop-i.value) c.args.characters.now c.loop-i.i 0 c.loop-i-test.true in
-    rw c.next-value-value.ensures (sym step ∙ c.loop-i.invariant)
+    rw c.next_value-value.ensures (sym step ∙ c.loop-i.invariant)
 
 pub returns : goal.returns
 returns g c =

@@ -9,7 +9,7 @@ returns-then-fit g c =
     let y = c.args.slip.now in
     let law = g.met.S.Scheme.lawful c.args.scheme.now in
     let f = sym c.fit.ensures ∙ c.if-fit.true in
-    let d = passing_same m x y c.same.result _ _ _ c.last-difference-place.ensures c.value-after-before.ensures c.value-after.ensures f c.same.ensures in
+    let d = passing_same m x y c.same.result _ _ _ c.last_difference-place.ensures c.value_after-before.ensures c.value_after.ensures f c.same.ensures in
     record { answers = d; exact = passing_accepted m x y c.same.result law d; law = λ u. law_of_slips m (law u) }
 
 pub returns-else-fit : goal.returns-else-fit

@@ -7,4 +7,4 @@ pub returns : goal.returns
 returns g c =
     let m = g.S.Scheme.meaning c.args.scheme.now in
     let r = c.args.reading.now in
-    c.value-over.ensures ∙ ap (λ (xs : List ℕ). run_from m (length r) 1 m.start xs) (take_least c.args.places c.min.result r c.min.ensures)
+    c.value_over.ensures ∙ ap (λ (xs : List ℕ). run_from m (length r) 1 m.start xs) (take_least c.args.places c.min.result r c.min.ensures)

@@ -15,5 +15,5 @@ returns-then-byte-ne10 c = λ bytes r.
 pub returns : goal.returns
 returns c = λ bytes r.
     rw c.if-byte-ne10.false
-    (at_end c.args.self.now c.close-line.new.self c.close-line.result bytes r
-    (leb-false _ _ (sym (c.if-full.ensures bytes r))) c.close-line.ensures)
+    (at_end c.args.self.now c.close_line.new.self c.close_line.result bytes r
+    (leb-false _ _ (sym (c.if-full.ensures bytes r))) c.close_line.ensures)

@@ -1,0 +1,4 @@
+pub mod Congruent
+pub mod Keys
+pub mod Searches
+pub mod Singles

@@ -1,0 +1,81 @@
+ghost use Rattle.std.specs.Prelude.{◌≡◌, ◌+◌, ◌-◌, ◌<◌, length};
+ghost use Rattle.alphabet.specs.Faults.{answer};
+ghost use Rattle.scheme.specs.Meaning.{run_by};
+ghost use Rattle.engine.specs.Rules.{misfit, uncounted, filled, single, last as last_of, Sealed};
+
+use crate::engines::Engine;
+use alphabet::{Fault, Refusal};
+
+// The first place of a character that is not allowed there.
+fn first_uncounted<E: Engine>(engine: &E, reading: &[u8]) -> Option<usize>
+    ensures { result ≡ uncounted (E.rules engine.now) (length reading.now) 1 reading.now }
+{
+    let width = reading.len();
+    for (i, character) in reading.iter().enumerate() {
+        if engine.count(width, i + 1, *character).is_none() {
+            return Some(i + 1);
+        }
+    }
+    None
+}
+
+// Answers well where a reading is fit for an engine, else its first fault: a width that the engine lacks, a character
+// that is not allowed at its place, a key out of range.
+fn fitness<E: Engine>(engine: &E, reading: &[u8]) -> Result<(), Fault>
+    ensures { result ≡ answer tt (misfit (E.rules engine.now) reading.now) }
+{
+    let width = reading.len();
+    if !engine.takes(width) {
+        return Err(Fault::new(Refusal::Width, 1, 0));
+    }
+    if let Some(place) = first_uncounted(engine, reading) {
+        return Err(Fault::new(Refusal::Kind, 1, place));
+    }
+    if !engine.in_range(reading) {
+        return Err(Fault::new(Refusal::Key, 1, width - engine.keys() + 1));
+    }
+    Ok(())
+}
+
+/// Whether a reading is fit for an engine.
+pub fn fits<E: Engine>(engine: &E, reading: &[u8]) -> bool
+    ensures { result ≡ (single (E.rules engine.now)).fit reading.now }
+{
+    fitness(engine, reading).is_ok()
+}
+
+/// Accepts a reading whose last running value is `last`, or answers its first fault; where it is fit, that is the
+/// remainder.
+pub fn accepts<E: Engine>(engine: &E, reading: &[u8], last: u16) -> Result<(), Fault>
+    ensures { last ≡ last_of (E.rules engine.now) reading.now → result ≡ answer tt ((single (E.rules engine.now)).fault reading.now) }
+{
+    fitness(engine, reading)?;
+    if last != engine.target() {
+        return Err(Fault::new(Refusal::Remainder, 1, 0));
+    }
+    Ok(())
+}
+
+// The running value after the first characters of a reading of `width`.
+fn value_after<E: Engine>(engine: &E, width: usize, characters: &[u8]) -> u16
+    ensures { result ≡ run_by (E.rules engine.now).next width 1 (E.rules engine.now).start characters.now }
+{
+    let mut value = engine.initial();
+    for (i, character) in characters.iter().enumerate() {
+        value = engine.step(width, i + 1, value, *character);
+    }
+    value
+}
+
+/// Writes the one key of a reading into its last places, at a width that the engine has; at any other, nothing.
+pub fn fill<E: Engine>(engine: &E, reading: &mut [u8])
+    ensures after { reading.new ≡ filled (E.rules engine.now) reading.old }
+    ensures good { Sealed (E.rules engine.now) reading.old reading.new }
+{
+    let width = reading.len();
+    if engine.takes(width) {
+        let end = width - engine.keys();
+        let value = value_after(engine, width, &reading[0..end]);
+        engine.write_key(width, value, &mut reading[end..width]);
+    }
+}
