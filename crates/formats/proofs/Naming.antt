@@ -1,6 +1,6 @@
 -- The search for a format by its word, and that it finds the one that has it.
 use Rattle.std.proofs.Common.{◌≡◌, ℕ, ◌+◌, ◌<◌, Bool, true, false, cond, List, [], ◌∷◌, length, get_or, drop, Some, None, Decides, Option, sym, refl, ap, ◌∙◌, subst, MatchOption}
-use Rattle.std.specs.List.{AllByRecursion as All}
+use Rattle.std.specs.List.{AllByRecursion}
 use Rattle.std.specs.Str.{bytes_eq}
 use Rattle.std.proofs.lemmas.Slice.Eq.{bytes_eq-Decides}
 use Rattle.std.proofs.lemmas.List.{at_drop_more}
@@ -25,7 +25,7 @@ module _ (w : List ℕ) (fs : List Format) (i : ℕ) (h : i < length fs) (d : Fo
   passed = turn false
 
 abbrev Exact : List ℕ → List Format → Option Format → Type 0
-Exact w fs o = MatchOption o (All (λ f. word_of f ≡ w → ⊥) fs) (λ f. word_of f ≡ w)
+Exact w fs o = MatchOption o (AllByRecursion (λ f. word_of f ≡ w → ⊥) fs) (λ f. word_of f ≡ w)
 
 exact_step : (w : List ℕ) (f : Format) (fs : List Format) (b : Bool) → bytes_eq w (word_of f) ≡ b → (o : Option Format) → Exact w fs o → Exact w (f ∷ fs) (cond b (Some f) o)
 exact_step w f fs true e o h = sym ((bytes_eq-Decides w (word_of f)).0 e)
@@ -37,7 +37,7 @@ exact_in w [] = tt
 exact_in w (f ∷ fs) = exact_step w f fs (bytes_eq w (word_of f)) refl (named w fs) (exact_in w fs)
 
 -- every format is among them
-each : (P : Format → Type 0) → All P every → (f : Format) → P f
+each : (P : Format → Type 0) → AllByRecursion P every → (f : Format) → P f
 each P h (System Mod11R2) = h.0
 each P h (System Mod37R2) = h.1.0
 each P h (System Mod97R10) = h.1.1.0

@@ -9,7 +9,7 @@
 --   Closed       an intake before and after its open line ends
 --   Reads        what an intake holds after some bytes
 use Rattle.std.specs.Prelude.{◌≡◌, ℕ, ◌+◌, ◌<◌, Bool, false, cond, ◌&&◌, List, [], ◌∷◌, ◌++◌, map, length, take, is_ok, is_err, Some, None, fold, count_by, Option, Result, ◌==◌, nat_lt}
-use Rattle.std.specs.List.{flat_map, AllByRecursion as All}
+use Rattle.std.specs.List.{flat_map, AllByRecursion}
 use Rattle.alphabet.specs.declared.fault.Fault.{Fault}
 use Rattle.intake.specs.Lines.{line_verdict}
 use Rattle.intake.specs.declared.held.Line.{Line}
@@ -28,11 +28,11 @@ abbrev pub fed : List ℕ → List (List ℕ) × List ℕ
 fed bytes = fold taken ([], []) bytes
 
 abbrev pub Plain : List ℕ → Type 0
-Plain l = All (λ b. (b == 10) ≡ false) l
+Plain l = AllByRecursion (λ b. (b == 10) ≡ false) l
 
 pub record Split (bytes : List ℕ) (ended : List (List ℕ)) (open' : List ℕ) : Type 0 where
   pub whole : flat_map (λ l. l ++ 10 ∷ []) ended ++ open' ≡ bytes
-  pub lines : All Plain ended
+  pub lines : AllByRecursion Plain ended
   pub last : Plain open'
 
 abbrev pub or_none : List ℕ → List (List ℕ)

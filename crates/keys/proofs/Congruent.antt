@@ -1,5 +1,5 @@
 -- Remainders by one modulus: what may be added, multiplied and cancelled.
-use Rattle.std.proofs.Common.{◌≡◌, ℕ, zero, suc, ◌+◌, ◌-◌, ◌*◌, ◌/◌, ◌%◌, ◌<◌, sym, ap, ◌∙◌, mod-eq_of_lt, add_comm, arith}
+use Rattle.std.proofs.Common.{◌≡◌, ℕ, zero, suc, ◌+◌, ◌*◌, ◌/◌, ◌%◌, ◌<◌, sym, ap, ◌∙◌, mod-eq_of_lt, add_comm, arith}
 use native.Mathlib.Nat.{mod-add-mod, add-mul-mod_self_left, div-add-mod}
 
 -- r times some number leaves 1, so that a factor r cancels

@@ -1,15 +1,15 @@
 -- A key and its number answer each other.
-use Rattle.std.proofs.Common.{◌≡◌, ℕ, zero, suc, ◌+◌, ◌*◌, ◌/◌, ◌%◌, ◌<◌, ◌≤◌, true, cond, List, [], ◌∷◌, length, is_some, Some, None, Option, unwrap_or, sym, refl, ap, ◌∙◌, mod-lt, mod-eq_of_lt, mul_comm, arith}
+use Rattle.std.proofs.Common.{◌≡◌, ℕ, ◌+◌, ◌*◌, ◌/◌, ◌%◌, ◌<◌, ◌≤◌, true, List, [], ◌∷◌, length, is_some, Some, None, Option, unwrap_or, sym, refl, ap, ◌∙◌, mod-lt, mod-eq_of_lt, mul_comm, arith}
 use native.Mathlib.Nat.{div-add-mod, mul-add-mod_self_left}
 use Rattle.std.proofs.lemmas.Nat.{div_below, div-mul-add}
 use Rattle.std.proofs.lemmas.Bool.{cond-true, lt-ltb}
-use Rattle.std.specs.List.{AllByRecursion as All}
+use Rattle.std.specs.List.{AllByRecursion}
 use Rattle.alphabet.specs.Characters.{is_character, Characters}
 use Rattle.alphabet.specs.Counts.{size, count_of, symbol_of}
 use Rattle.alphabet.specs.declared.counts.Alphabet.{Alphabet}
 use Rattle.alphabet.specs.declared.counts.Alphabet.TheVariants.{Digits, DigitsX, Letters, Alphanumeric, Full}
 use Rattle.alphabet.proofs.Alphabets.{count_symbol, count_below, symbol_count, symbol_character}
-use Rattle.keys.specs.KeyRanges.{keys_of, count_in, number_by, number_of, symbol_in, symbols_by, symbols_of}
+use Rattle.keys.specs.KeyRanges.{keys_of, count_in, number_by, number_of, symbol_in, symbols_by}
 use Rattle.keys.specs.declared.range.KeyLength.{KeyLength}
 use Rattle.keys.specs.declared.range.KeyLength.TheVariants.{One, Two}
 use Rattle.keys.specs.declared.range.KeyRange.{KeyRange}
@@ -82,7 +82,7 @@ module _ (r : KeyRange) where
   low n = mod-lt n (size_positive r.alphabet)
 
   abbrev pub Allowed : List ℕ → Type 0
-  Allowed ks = All (λ c. is_some (count_of r.alphabet c) ≡ true) ks
+  Allowed ks = AllByRecursion (λ c. is_some (count_of r.alphabet c) ≡ true) ks
 
   pub symbols_length : (l : KeyLength) (n : ℕ) → length (symbols_by l r n) ≡ keys_of l
   symbols_length One n = refl

@@ -1,4 +1,6 @@
 //! Keys of one or two characters, by the numbers that they make, as most engines have them.
+#![tactic(auto)]
+
 mod range;
 mod ranges;
 

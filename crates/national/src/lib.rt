@@ -1,4 +1,6 @@
 //! The keys of national account numbers: the Belgian and the French one, and the slips that each lets pass.
+#![tactic(auto)]
+
 mod accounts;
 mod belgian;
 mod french;

@@ -1,5 +1,5 @@
 -- The pure systems keep what an engine keeps: one argument over modulus, radix, alphabets and the start of the key range.
-use Rattle.std.specs.Prelude.{◌≡◌, ℕ, zero, suc, ◌+◌, ◌-◌, ◌*◌, ◌/◌, ◌%◌, ◌<◌, ◌≤◌, Bool, true, false, cond, not, List, [], ◌∷◌, ◌++◌, length, take, drop, is_some, Some, None, Option, slice_index, slice_index_or, refl}
+use Rattle.std.specs.Prelude.{◌≡◌, ℕ, zero, suc, ◌+◌, ◌-◌, ◌*◌, ◌/◌, ◌%◌, ◌<◌, ◌≤◌, Bool, true, false, cond, List, [], ◌∷◌, ◌++◌, length, take, drop, is_some, Some, None, Option, slice_index, slice_index_or, refl}
 use Rattle.std.proofs.Common.{sym, ap, subst, ◌∙◌, mod-lt, mod-eq_of_lt, zero-mul, mul_comm, arith, length-append, length-take, length-drop, take-append-drop}
 use Rattle.std.proofs.Math.Nat.{div-add-mod, mul-add-mod_self_left}
 use Rattle.std.proofs.lemmas.Nat.{div_below, div-mul-add}
@@ -9,10 +9,9 @@ use Rattle.std.specs.Option.{unwrap_or}
 use Rattle.alphabet.specs.Counts.{size, count_of, symbol_of}
 use Rattle.alphabet.specs.declared.counts.Alphabet.{Alphabet}
 use Rattle.alphabet.specs.declared.counts.Alphabet.TheVariants.{Digits, DigitsX, Letters, Alphanumeric, Full}
-use Rattle.alphabet.specs.declared.fault.Fault.{Fault}
 use Rattle.alphabet.specs.Characters.{Characters}
 use Rattle.alphabet.proofs.Alphabets.{count_symbol, count_below, symbol_count, symbol_character}
-use Rattle.scheme.specs.Meaning.{Accepted, Step, Running, at_start, stepped, run_by}
+use Rattle.scheme.specs.Meaning.{Step, Running, at_start, stepped, run_by}
 use Rattle.scheme.specs.Runs.{run-append}
 use Rattle.engine.specs.Remainders.{Inverse, KeyFor}
 use Rattle.engine.specs.Rules.{Rules, uncounted, misfit, body, before, last, filled, single, Keyed, Keeps}

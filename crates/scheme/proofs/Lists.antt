@@ -1,11 +1,9 @@
 -- From one step to the list: what an engine shows of the characters at a slip is all that its list needs.
 use Rattle.std.proofs.Common.{◌≡◌, ℕ, ◌+◌, ◌≤◌, true, ◌≢◌, ◌↔◌, List, ◌∷◌, ◌++◌, length, is_some, None, sym, refl, ap, ◌∙◌, arith, length-append}
 use Rattle.std.proofs.lemmas.Bool.Decides.{nat_tests}
-use Rattle.alphabet.specs.Readings.{Text}
-use Rattle.alphabet.specs.Slips.{Slip, replaced, exchanged, last_changed}
-use Rattle.alphabet.proofs.Slips.{slip_width}
+use Rattle.alphabet.specs.Slips.{replaced, exchanged}
 use Rattle.scheme.specs.Lists.{SlipRule, LetsPass}
-use Rattle.scheme.specs.Meaning.{Accepted, run_by}
+use Rattle.scheme.specs.Meaning.{run_by}
 use Rattle.scheme.specs.Rules.{Rules, next_by, uncounted, misfit, single, Keeps}
 use Rattle.scheme.specs.Slips.{value_after}
 use Rattle.scheme.specs.Searches.{first_allowed, uncounted_front, uncounted-append}

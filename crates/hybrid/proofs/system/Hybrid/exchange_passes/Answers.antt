@@ -14,6 +14,6 @@ decides h p a b m x y r em ex ey d = rw (em, ex, ey) at d
 pub returns : goal.returns
 returns c = record {
   rule = decides c.args.self c.args.value c.args.first c.args.second _ _ _ _
-      (c.from.ensures ∙ c.modulus.ensures.value) c.joined-by-one.ensures c.joined-by-other.ensures c.are-halves.ensures;
+      (c.from.ensures ∙ c.modulus.ensures.value) c.joined_by-one.ensures c.joined_by-other.ensures c.are_halves.ensures;
   list = slips c.args.self;
 }

@@ -2,4 +2,4 @@ use Rattle.national.specs.FrenchLaws.{slips}
 use Rattle.national.proofs.accounts.FrenchKey.lets_pass.Goals as goal
 
 pub returns : goal.returns
-returns c = record { rule = c.equal-counts.ensures; list = slips }
+returns c = record { rule = c.equal_counts.ensures; list = slips }
