@@ -5,7 +5,7 @@
 --   Text           1 to 34 characters
 --   stray_at       the first place, from k on, of a byte that is no character
 --   narrow         a turned text of fewer than five characters
---   characters_of the characters that a reading in the program's hands holds
+--   characters_of  the characters that a reading in the program's hands holds
 --   opening        the first refusal of a text before any scheme reads it: width, stray byte, narrow turned text
 use Rattle.std.specs.Prelude.{ℕ, ◌+◌, ◌-◌, ◌≤◌, Bool, false, cond, ◌||◌, List, [], ◌∷◌, ◌++◌, length, take, drop, Some, None, Option, ◌==◌, nat_le, nat_lt}
 use Rattle.std.specs.Option.{option_map}

@@ -1,10 +1,10 @@
 -- Paper forms: numbers as people write them, in groups with gaps between them.
---   is_gap     a space or a hyphen
---   right      the byte at an index is a character, or a gap between two characters
---   wrong_at   the first place, counted from 1, of a byte that is not right
---   stripped   the characters of a form, without its gaps
---   stripping  the first refusal of a form: a byte that is not right, a width that no text has, want of room
---   afterwards the buffer after strip: the characters and what stood behind them, or at a refusal what it held
+--   is_gap      a space or a hyphen
+--   right       the byte at an index is a character, or a gap between two characters
+--   wrong_at    the first place, counted from 1, of a byte that is not right
+--   stripped    the characters of a form, without its gaps
+--   stripping   the first refusal of a form: a byte that is not right, a width that no text has, want of room
+--   afterwards  the buffer after strip: the characters and what stood behind them, or at a refusal what it held
 use Rattle.std.specs.Prelude.{ℕ, zero, suc, ◌+◌, ◌-◌, Bool, cond, ◌&&◌, ◌||◌, List, [], ◌∷◌, ◌++◌, length, drop, Some, None, filter, Option, ◌==◌, nat_lt, slice_index}
 use Rattle.std.specs.Option.{option_map}
 use Rattle.alphabet.specs.Characters.{is_character}
