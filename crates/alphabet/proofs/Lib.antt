@@ -1,4 +1,4 @@
 pub mod Alphabets
-pub mod Places
+pub mod Buffers
 pub mod Slips
 pub mod Texts

@@ -1,9 +1,10 @@
 -- What the refusals before any scheme leave: a text of 1 to 34 characters, and its reading.
-use Rattle.std.proofs.Common.{◌≡◌, ℕ, ◌+◌, ◌-◌, ◌<◌, ◌≤◌, Bool, true, false, cond, ◌||◌, eqb, ltb, List, [], ◌∷◌, ◌++◌, length, get_or, take, drop, Some, None, refl, ap, ◌∙◌, subst, arith, length-append, length-drop, length-take}
-use borrow.Rule.Slice.PartMut.{put_mid}
+use Rattle.std.proofs.Common.{◌≡◌, ℕ, ◌+◌, ◌≤◌, Bool, true, false, cond, not, position, option_map, ◌||◌, eqb, ltb, List, [], ◌∷◌, ◌++◌, length, take, drop, Some, None, refl, ap, ◌∙◌, arith, length-append, length-drop, length-take}
 use Rattle.std.proofs.ByRecursion.{All-append, All-take, All-drop}
-use Rattle.std.proofs.lemmas.List.{append-nil, take_at, drop-drop, drop_all, at_drop_more, at_drop_all}
+use Rattle.std.proofs.lemmas.List.{append-nil, take_all}
 use Rattle.std.proofs.lemmas.Bool.Decides.{nat_tests}
+use Rattle.std.proofs.lemmas.Iterator.Adapters.{position_from-zero}
+use Rattle.std.specs.List.{position_from}
 use Rattle.alphabet.specs.Characters.{is_character, Characters}
 use Rattle.alphabet.specs.Readings.{reading, moved_by, Text, stray_at, narrow, opening}
 use Rattle.alphabet.specs.declared.turn.Turn.{Turn}
@@ -36,23 +37,23 @@ reading-text Turned t h =
     let b = h.short in
     record { some = omega arith; short = omega arith; characters = All-append (λ b. is_character b ≡ true) (drop 4 t) (take 4 t) (All-drop _ 4 t h.characters) (All-take _ 4 t h.characters) }
 
--- one step of the search for a stray byte, and its end
-pub stray_more : (t : List ℕ) (i : ℕ) → i < length t → stray_at (i + 1) (drop i t) ≡ cond (is_character (get_or t i 0)) (stray_at ((i + 1) + 1) (drop (i + 1) t)) (Some (i + 1))
-stray_more t i h = at_drop_more (stray_at (i + 1)) t i 0 h
+-- the first stray byte, as the library's search finds it
+stray_from : (k : ℕ) (t : List ℕ) → option_map (λ i. i + 1) (position_from (λ b. not (is_character b)) k t) ≡ stray_at (k + 1) t
+stray_from k [] = refl
+stray_from k (b ∷ bs) = let rest = stray_from (k + 1) bs in grind (arith, nat_tests)
 
-pub stray_all : (t : List ℕ) (i : ℕ) → length t ≤ i → stray_at (i + 1) (drop i t) ≡ None
-stray_all t i h = at_drop_all (stray_at (i + 1)) t i h
+pub stray_position : (t : List ℕ) → option_map (λ i. i + 1) (position (λ b. not (is_character b)) t) ≡ stray_at 1 t
+stray_position t = ap (option_map (λ i. i + 1)) (position_from-zero (λ b. not (is_character b)) t) ∙ stray_from 0 t
 
--- the reading, by how much is moved
-pub reading_moved : (turn : Turn) (t : List ℕ) → drop (moved_by turn) t ++ take (moved_by turn) t ≡ reading turn t
-reading_moved Straight t = append-nil t
-reading_moved Turned t = refl
-
--- what the reading is made of, at the front of an array
-pub reading_front : (turn : Turn) (t y rest : List ℕ) (k : ℕ) → k ≡ moved_by turn → y ≡ drop k t ++ take k t → length y ≡ length t → take (length t) (y ++ rest) ≡ reading turn t
-reading_front turn t y rest k e h l =
-    let P : ℕ → Type 0 = λ n. y ≡ drop n t ++ take n t in
-    take_at y rest (length t) l ∙ subst P e h ∙ reading_moved turn t
+-- what a buffer of 34 bytes holds after the rest of a text and then the characters that the turn moves
+pub reading_held : (turn : Turn) (t h g : List ℕ) → length t ≤ 34 → h ≡ take 34 (drop (moved_by turn) t) → g ≡ take 34 (h ++ take (moved_by turn) t) → g ≡ reading turn t
+reading_held Straight t h g l a b =
+    let h' : h ≡ t = a ∙ take_all 34 t l in
+    b ∙ ap (take 34) (append-nil h) ∙ ap (take 34) h' ∙ take_all 34 t l
+reading_held Turned t h g l a b =
+    let long : length (drop 4 t) ≤ 34 = simp length-drop (omega arith) in
+    let whole : length (drop 4 t ++ take 4 t) ≤ 34 = simp (length-append, length-drop, length-take) (omega arith) in
+    b ∙ ap (λ (xs : List ℕ). take 34 (xs ++ take 4 t)) (a ∙ take_all 34 (drop 4 t) long) ∙ take_all 34 (drop 4 t ++ take 4 t) whole
 
 -- no refusal before any scheme
 pub opening_none : (turn : Turn) (t : List ℕ) → opening turn t ≡ None → Text t × (narrow turn (length t) ≡ false)
@@ -68,18 +69,3 @@ none_opening turn t h n =
     let a = h.some in
     let b = h.short in
     grind (arith, nat_tests)
-
--- two parts written one behind the other over a whole slice
-pub two_parts : (to p q : List ℕ) (a k : ℕ) → length p ≡ a → a ≤ length to → length to ≡ a + k → put_mid a k (p ++ drop a to) q ≡ p ++ q
-two_parts to p q a k l h e =
-    let len : length (p ++ drop a to) ≡ a + k = simp (length-append, length-drop) (omega arith) in
-    let rest : drop k (drop a (p ++ drop a to)) ≡ [] = drop-drop k a (p ++ drop a to) ∙ drop_all (a + k) (p ++ drop a to) (omega arith) in
-    let front = take_at p (drop a to) a l in
-    let none = append-nil q in
-    cc
-
-pub moved_whole : (t to p q : List ℕ) (cut : ℕ) → cut ≤ length t → length to ≡ length t → p ≡ drop cut t → q ≡ take cut t → put_mid (length t - cut) (length t - (length t - cut)) (p ++ drop ((length t - cut) - 0) to) q ≡ drop cut t ++ take cut t
-moved_whole t to p q cut h e one two =
-    let len : length p ≡ length t - cut = ap length one ∙ length-drop cut t in
-    let zero : (length t - cut) - 0 ≡ length t - cut = omega arith in
-    rw zero (two_parts to p q (length t - cut) (length t - (length t - cut)) len (omega arith) (omega arith) ∙ cc)

@@ -2,9 +2,10 @@
 --   number_of    the number of a refusal, as it is printed
 --   fault_at     a fault by its refusal, layer and place
 --   of_no_layer  a refusal of the whole text: layer 0, place 0
+--   printed      a fault as it is printed: number, layer and place
 --   first        the first fault of a list of possible ones: the order of the list is the order of refusal
 --   answer       what a call answers: good where there is no fault, else the fault
-use Rattle.std.specs.Prelude.{ℕ, Bool, cond, List, [], ◌∷◌, Some, None, Ok, Err, Option, Result}
+use Rattle.std.specs.Prelude.{ℕ, Bool, cond, List, [], ◌∷◌, ◌++◌, decimal, Some, None, Ok, Err, Option, Result}
 use Rattle.alphabet.specs.declared.fault.Refusal.{Refusal}
 use Rattle.alphabet.specs.declared.fault.Refusal.TheVariants.{Width, Stray, Kind, Prefix, Key, Remainder, Standing, Twin, Full, Unknown, Short, Format, Unfit}
 use Rattle.alphabet.specs.declared.fault.Fault.{Fault}
@@ -29,6 +30,10 @@ fault_at r l p = record { refusal = r; layer = l; place = p }
 
 abbrev pub of_no_layer : Refusal → Fault
 of_no_layer r = fault_at r 0 0
+
+-- the byte 32 is the space
+abbrev pub printed : Fault → List ℕ
+printed f = decimal (number_of f.refusal) ++ (32 ∷ (decimal f.layer ++ (32 ∷ decimal f.place)))
 
 abbrev pub or_else : Option Fault → Option Fault → Option Fault
 or_else None g = g

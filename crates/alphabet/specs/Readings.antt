@@ -10,6 +10,7 @@
 use Rattle.std.specs.Prelude.{ℕ, ◌+◌, ◌-◌, ◌≤◌, Bool, false, cond, ◌||◌, List, [], ◌∷◌, ◌++◌, length, take, drop, Some, None, Option, ◌==◌, nat_le, nat_lt}
 use Rattle.std.specs.Option.{option_map}
 use Rattle.alphabet.specs.Characters.{is_character, Characters}
+use Rattle.alphabet.specs.Holding.{held}
 use Rattle.alphabet.specs.Faults.{fault_at, of_no_layer, first, whenever}
 use Rattle.alphabet.specs.declared.reading.Reading.{Reading}
 use Rattle.alphabet.specs.declared.turn.Turn.{Turn}
@@ -54,4 +55,4 @@ opening turn t =
     whenever (narrow turn (length t)) (fault_at Width 1 0) ∷ [])
 
 abbrev pub characters_of : Reading → List ℕ
-characters_of r = take r.width r.bytes
+characters_of r = held r.text

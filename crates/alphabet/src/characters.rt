@@ -1,6 +1,8 @@
 ghost use Rattle.std.specs.Prelude.{◌≡◌};
 ghost use Rattle.alphabet.specs.Characters.{is_character, base_value};
 
+use crate::counts::Alphabet;
+
 /// Whether a byte is a character: a digit, a capital letter or the asterisk.
 pub fn is_character(byte: u8) -> bool
     ensures { result ≡ is_character byte }
@@ -12,10 +14,5 @@ pub fn is_character(byte: u8) -> bool
 pub fn base_value(byte: u8) -> Option<u8>
     ensures { result ≡ base_value byte }
 {
-    match byte {
-        b'0'..=b'9' => Some(byte - b'0'),
-        b'A'..=b'Z' => Some(byte - b'A' + 10),
-        b'*' => Some(36),
-        _ => None,
-    }
+    Alphabet::Full.count(byte)
 }

@@ -1,35 +1,42 @@
-/// Why a call refuses. `number` has the number of each, as it is printed.
+ghost use Rattle.std.specs.Prelude.{◌≡◌, Some};
+ghost use Rattle.alphabet.specs.Faults.{number_of, of_no_layer, fault_at, printed};
+
+use std::error::Error;
+use std::fmt;
+
+/// Why a call refuses, by the number that is printed.
 #[derive(Clone, Copy, PartialEq, Eq, Debug)]
 pub enum Refusal {
     /// Empty, above 34 characters, or a width that the layer or the format lacks.
-    Width,
+    Width = 1,
     /// A byte that is no character, or a misplaced gap.
-    Stray,
+    Stray = 2,
     /// A character that is not allowed at its place.
-    Kind,
+    Kind = 3,
     /// A country that is not in the table, or a prefix that is missing.
-    Prefix,
+    Prefix = 4,
     /// A key outside its range.
-    Key,
+    Key = 5,
     /// Fit, but the last running value is not the good one.
-    Remainder,
+    Remainder = 6,
     /// The number is in the register already.
-    Standing,
+    Standing = 7,
     /// A number in the register is one slip away.
-    Twin,
+    Twin = 8,
     /// The register has no blank row.
-    Full,
+    Full = 9,
     /// The number is not in the register.
-    Unknown,
+    Unknown = 10,
     /// A list or a buffer cannot hold the result.
-    Short,
+    Short = 11,
     /// No such format word, or no space after it.
-    Format,
+    Format = 12,
     /// A pile that is no scheme.
-    Unfit,
+    Unfit = 13,
 }
 
 /// A refusal with the layer and the place that it concerns; 0 where it is of no layer or no place.
+// The three are printed as they are, 0 for none: an option would be taken apart only to print it.
 #[derive(Clone, Copy, PartialEq, Eq, Debug)]
 pub struct Fault {
     /// Why.
@@ -39,3 +46,52 @@ pub struct Fault {
     /// The place, from 1.
     pub place: usize,
 }
+
+impl Refusal {
+    /// The number of the refusal, 1 to 13.
+    pub fn number(self) -> u8
+        ensures { result ≡ number_of self }
+    {
+        self as u8
+    }
+}
+
+impl Fault {
+    /// A fault by its three parts.
+    pub fn new(refusal: Refusal, layer: usize, place: usize) -> Fault
+        ensures { result ≡ fault_at refusal layer place }
+    {
+        Fault {
+            refusal,
+            layer,
+            place,
+        }
+    }
+}
+
+/// A refusal of the whole text, which concerns no layer and no place.
+impl From<Refusal> for Fault {
+    ghost from_gives = { λ refusal fault. fault ≡ of_no_layer refusal };
+
+    fn from(refusal: Refusal) -> Fault {
+        Fault {
+            refusal,
+            layer: 0,
+            place: 0,
+        }
+    }
+}
+
+/// Number, layer and place, with a space between them.
+impl fmt::Display for Fault {
+    ghost output = { λ fault. Some (printed fault) };
+
+    fn fmt<W: fmt::Write>(&self, f: &mut fmt::Formatter<W>) -> fmt::Result {
+        let number = self.refusal.number();
+        let layer = self.layer;
+        let place = self.place;
+        write!(f, "{number} {layer} {place}")
+    }
+}
+
+impl Error for Fault {}

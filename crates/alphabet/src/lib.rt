@@ -2,18 +2,15 @@
 #![tactic(auto)]
 
 mod characters;
-mod counted;
 mod counts;
 mod fault;
-mod numbers;
+mod held;
 mod reading;
-mod readings;
 mod turn;
-mod turns;
 
 pub use characters::{base_value, is_character};
 pub use counts::Alphabet;
 pub use fault::{Fault, Refusal};
-pub use reading::Reading;
-pub use readings::WIDEST;
+pub use held::Held;
+pub use reading::{Reading, WIDEST};
 pub use turn::Turn;

@@ -2,6 +2,5 @@
 #![tactic(auto)]
 
 mod format;
-mod words;
 
 pub use format::Format;

@@ -5,13 +5,6 @@ ghost use Rattle.hybrid.specs.Systems.{modulus_of, range_of, full};
 
 use crate::system::Hybrid;
 
-// The running value and the count of a character together, from 1 to M.
-fn joined_by(system: Hybrid, value: u16, character: u8) -> u32
-    ensures { result ≡ full (modulus_of system) (value + count_in (range_of system) character) }
-{
-    system.joined(value, system.range().count(character))
-}
-
 // Whether two numbers are the halves of the modulus, M / 2 and M / 2 + 1, in some order.
 fn are_halves(modulus: u32, one: u32, other: u32) -> bool
     ensures { Decides result (Halves modulus one other) }
@@ -21,6 +14,13 @@ fn are_halves(modulus: u32, one: u32, other: u32) -> bool
 }
 
 impl Hybrid {
+    // The running value and the count of a character together, from 1 to M.
+    fn joined_by(self, value: u16, character: u8) -> u32
+        ensures { result ≡ full (modulus_of self) (value + count_in (range_of self) character) }
+    {
+        self.joined(value, self.range().count(character))
+    }
+
     /// Whether the exchange of two neighbours passes, by the running value before them: where value + count, by remainder M
     /// with M for 0, is M / 2 for the one and M / 2 + 1 for the other.
     ///
@@ -30,8 +30,8 @@ impl Hybrid {
         ensures rule { Decides result (Exchanges self value first second) }
         ensures list { HybridSlips self }
     {
-        let one = joined_by(self, value, first);
-        let other = joined_by(self, value, second);
+        let one = self.joined_by(value, first);
+        let other = self.joined_by(value, second);
         are_halves(u32::from(self.modulus()), one, other)
     }
 }

@@ -5,7 +5,6 @@
 //! MOD 11,10.
 #![tactic(auto)]
 
-mod engine;
 mod exchanges;
 mod system;
 

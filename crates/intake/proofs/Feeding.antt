@@ -56,10 +56,6 @@ pub splits : (bytes : List ℕ) → Split bytes (fed bytes).0 (fed bytes).1
 splits bytes = split_all bytes [] ([], []) (record { whole = refl; lines = tt; last = tt })
 
 -- an open line that holds something is a line
-pub or_none_lem : (l : List ℕ) → length l ≡ 0 → or_none l ≡ []
-or_none_lem [] h = refl
-or_none_lem (b ∷ bs) h = absurd (omega arith)
-
 pub or_one : (l : List ℕ) → 0 < length l → or_none l ≡ l ∷ []
 or_one [] h = absurd (omega arith)
 or_one (b ∷ bs) h = refl

@@ -1,30 +1,35 @@
 -- Lines: where they are cut, and that a line is good exactly where its verdict is.
-use Rattle.std.proofs.Common.{◌≡◌, ℕ, ◌+◌, ◌<◌, ◌≤◌, Bool, true, false, cond, eqb, ltb, List, [], ◌∷◌, ◌++◌, length, get_or, take, drop, Some, None, Ok, Err, Option, Result, sym, refl, ap, ◌∙◌, subst, arith, MatchResult}
-use Rattle.std.proofs.lemmas.List.{append_assoc, at_drop_more, take_at, take_more}
-use Rattle.std.proofs.lemmas.Bool.{eq-eqb, ne_eqb}
+use Rattle.std.proofs.Common.{◌≡◌, ◌==◌, ℕ, ◌+◌, ◌≤◌, Bool, true, false, cond, eqb, ltb, position, option_map, find, List, [], ◌∷◌, ◌++◌, length, take, drop, Some, None, Ok, Err, Option, Result, sym, refl, ap, ◌∙◌, subst, arith, MatchResult}
+use Rattle.std.specs.List.{position_from}
+use Rattle.std.proofs.lemmas.Iterator.Adapters.{position_from-zero}
+use Rattle.std.proofs.lemmas.List.{append_assoc, drop_at, length_push, take_at}
+use Rattle.std.specs.Str.{bytes_eq}
+use Rattle.std.proofs.lemmas.Slice.Eq.{bytes_eq-Decides}
 use Rattle.std.proofs.lemmas.Bool.Decides.{nat_tests}
 use Rattle.alphabet.specs.Faults.{of_no_layer, answer}
 use Rattle.alphabet.specs.declared.fault.Refusal.TheVariants.{Width}
-use Rattle.alphabet.specs.Readings.{Text}
 use Rattle.alphabet.specs.declared.fault.Fault.{Fault}
-use Rattle.pure.specs.declared.parameters.Pure.TheVariants.{Mod11R2, Mod37R2, Mod97R10, Mod661R26, Mod1271R36}
-use Rattle.formats.specs.Formats.{word_of, format_of, format_verdict, FormatValid}
+use Rattle.pure.specs.declared.systems.Pure.TheVariants.{Mod11R2, Mod37R2, Mod97R10, Mod661R26, Mod1271R36}
+use Rattle.formats.specs.Formats.{word_of, every, format_of, format_verdict, FormatValid}
 use Rattle.formats.specs.declared.format.Format.{Format}
 use Rattle.formats.specs.declared.format.Format.TheVariants.{System}
 use Rattle.paper.specs.Paper.{wrong_at, stripped, stripping, afterwards}
 use Rattle.intake.specs.Lines.{cut_after, by_form, by_format, by_word, line_verdict, GoodLine}
 
-step : (l : List ℕ) (i : ℕ) → i < length l → cut_after (take i l) (drop i l) ≡ cond (eqb (get_or l i 0) 32) (Some (take i l, drop (i + 1) l)) (cut_after (take i l ++ get_or l i 0 ∷ []) (drop (i + 1) l))
-step l i h = at_drop_more (cut_after (take i l)) l i 0 h
+-- a line is cut at the first space, as the library finds it: what is read of the line, and what is left
+cut_from : (l word rest : List ℕ) (k : ℕ) → l ≡ word ++ rest → k ≡ length word →
+    cut_after word rest ≡ option_map (λ i. (take i l, drop (i + 1) l)) (position_from (λ b. b == 32) k rest)
+cut_from l word [] k e n = refl
+cut_from l word (b ∷ bs) k e n =
+    let split : l ≡ (word ++ b ∷ []) ++ bs = e ∙ sym (append_assoc word (b ∷ []) bs) in
+    let more : k + 1 ≡ length (word ++ b ∷ []) = omega (arith, length_push word b) in
+    let front : take k l ≡ word = ap (take k) e ∙ take_at word (b ∷ bs) k (sym n) in
+    let behind : drop (k + 1) l ≡ bs = ap (drop (k + 1)) split ∙ drop_at (word ++ b ∷ []) bs (k + 1) (sym more) in
+    let later = cut_from l (word ++ b ∷ []) bs (k + 1) split more in
+    grind (arith, nat_tests)
 
-pub cut_here : (l : List ℕ) (i : ℕ) → i < length l → get_or l i 0 ≡ 32 → cut_after (take i l) (drop i l) ≡ Some (take i l, drop (i + 1) l)
-cut_here l i h e = step l i h ∙ ap (λ (b : Bool). cond b (Some (take i l, drop (i + 1) l)) (cut_after (take i l ++ get_or l i 0 ∷ []) (drop (i + 1) l))) (eq-eqb (get_or l i 0) 32 e)
-
-pub cut_later : (l : List ℕ) (i : ℕ) → i < length l → (get_or l i 0 ≡ 32 → ⊥) → cut_after (take i l) (drop i l) ≡ cut_after (take (i + 1) l) (drop (i + 1) l)
-cut_later l i h n =
-    step l i h
-    ∙ ap (λ (b : Bool). cond b (Some (take i l, drop (i + 1) l)) (cut_after (take i l ++ get_or l i 0 ∷ []) (drop (i + 1) l))) (ne_eqb (get_or l i 0) 32 n)
-    ∙ ap (λ (w : List ℕ). cut_after w (drop (i + 1) l)) (sym (take_more l i 0 h))
+pub cut_position : (l : List ℕ) → cut_after [] l ≡ option_map (λ i. (take i l, drop (i + 1) l)) (position (λ b. b == 32) l)
+cut_position l = cut_from l [] l 0 refl refl ∙ ap (option_map (λ i. (take i l, drop (i + 1) l))) (sym (position_from-zero (λ b. b == 32) l))
 
 -- a word of a format has no space in it
 cut_word : (f : Format) (form : List ℕ) → cut_after [] (word_of f ++ (32 ∷ form)) ≡ Some (word_of f, form)
@@ -42,20 +47,17 @@ word_format (System Mod97R10) = refl
 word_format (System Mod661R26) = refl
 word_format (System Mod1271R36) = refl
 
-valid_text : (f : Format) (t : List ℕ) → FormatValid f t → Text t
-valid_text (System s) t v = v.text
+-- a word that names a format is the format's
+found : {X : Type 0} (p : X → Bool) (xs : List X) (x : X) → find p xs ≡ Some x → p x ≡ true
+found p [] x e = grind arith
+found p (y ∷ ys) x e = let rest = found p ys x in grind (arith, nat_tests)
 
--- what a good line is cut into, and that its form can be stripped
-pub good_cut : (l : List ℕ) (g : GoodLine l) → cut_after [] l ≡ Some (word_of g.format, g.form)
+named_word : (word : List ℕ) (f : Format) → format_of word ≡ Some f → word_of f ≡ word
+named_word word f e = sym ((bytes_eq-Decides word (word_of f)).0 (found (λ g. bytes_eq word (word_of g)) every f e))
+
+-- what a good line is cut into
+good_cut : (l : List ℕ) (g : GoodLine l) → cut_after [] l ≡ Some (word_of g.format, g.form)
 good_cut l g = ap (cut_after []) g.parts ∙ cut_word g.format g.form
-
-pub good_strip : (l : List ℕ) (g : GoodLine l) → stripping g.form 34 ≡ None
-good_strip l g =
-    let t = valid_text g.format (stripped g.form) g.valid in
-    let a = t.some in
-    let b = t.short in
-    let r = g.right in
-    grind (arith, nat_tests)
 
 -- a line is what it is cut into, with the space between
 cut_at : (acc : List ℕ) (b : ℕ) (bs word form : List ℕ) → (cut_after (acc ++ b ∷ []) bs ≡ Some (word, form) → (acc ++ b ∷ []) ++ bs ≡ word ++ (32 ∷ form)) →
@@ -67,7 +69,7 @@ cut_at acc b bs word form h true e q =
     cc
 cut_at acc b bs word form h false e q = sym (append_assoc acc (b ∷ []) bs) ∙ h q
 
-pub cut_parts : (acc l word form : List ℕ) → cut_after acc l ≡ Some (word, form) → acc ++ l ≡ word ++ (32 ∷ form)
+cut_parts : (acc l word form : List ℕ) → cut_after acc l ≡ Some (word, form) → acc ++ l ≡ word ++ (32 ∷ form)
 cut_parts acc [] word form q = absurd (let z : ◌≡◌ {A = ℕ} 0 1 = cc in let n : ⊥ = omega arith in n)
 cut_parts acc (b ∷ bs) word form q = cut_at acc b bs word form (cut_parts (acc ++ b ∷ []) bs word form) (eqb b 32) refl q
 
@@ -80,7 +82,7 @@ none_wrong form e = grind (arith, nat_tests)
 
 -- a line that is cut, named and stripped is judged by the check of its characters
 module _ (l word form : List ℕ) (f : Format) (w : ℕ) (buffer zeros t : List ℕ) (r : Result (Unit {0}) Fault)
-    (short : length l ≤ 128) (cut : cut_after [] l ≡ Some (word, form)) (named : Some f ≡ format_of word) (word_is : word_of f ≡ word)
+    (short : length l ≤ 128) (cut : cut_after [] l ≡ Some (word, form)) (named : format_of word ≡ Some f)
     (width : Ok w ≡ answer (length (stripped form)) (stripping form 34)) (held : buffer ≡ afterwards (stripping form 34) form zeros) (part : t ≡ take w buffer)
     (checked : r ≡ format_verdict f t) (exact : MatchResult r (λ _. FormatValid f t) (λ _. FormatValid f t → ⊥)) where
   clean : stripping form 34 ≡ None
@@ -95,7 +97,7 @@ module _ (l word form : List ℕ) (f : Format) (w : ℕ) (buffer zeros t : List 
   line_is =
       let n : ltb 128 (length l) ≡ false = grind (arith, nat_tests) in
       ap (λ (b : Bool). cond b (Err (of_no_layer Width)) (by_word (cut_after [] l))) n
-      ∙ ap by_word cut ∙ ap (λ (o : Option Format). by_format o form) (sym named) ∙ ap (λ (o : Option Fault). by_form o f form) clean
+      ∙ ap by_word cut ∙ ap (λ (o : Option Format). by_format o form) named ∙ ap (λ (o : Option Fault). by_form o f form) clean
 
   pub judged : r ≡ line_verdict l
   judged = checked ∙ ap (format_verdict f) text ∙ sym line_is
@@ -107,7 +109,7 @@ module _ (l word form : List ℕ) (f : Format) (w : ℕ) (buffer zeros t : List 
         format = f;
         form = form;
         short = short;
-        parts = cut_parts [] l word form cut ∙ ap (λ (xs : List ℕ). xs ++ (32 ∷ form)) (sym word_is);
+        parts = cut_parts [] l word form cut ∙ ap (λ (xs : List ℕ). xs ++ (32 ∷ form)) (sym (named_word word f named));
         right = none_wrong form clean;
         valid = subst V text v;
       }
@@ -118,7 +120,7 @@ module _ (l word form : List ℕ) (f : Format) (w : ℕ) (buffer zeros t : List 
       let c = sym cut ∙ good_cut l g in
       let w-same : word ≡ word_of g.format = grind arith in
       let f-same : form ≡ g.form = grind arith in
-      let n : Some f ≡ Some g.format = named ∙ ap format_of w-same ∙ word_format g.format in
+      let n : Some f ≡ Some g.format = sym named ∙ ap format_of w-same ∙ word_format g.format in
       let same : g.format ≡ f = grind arith in
       let V : Format → Type 0 = λ x. FormatValid x (stripped g.form) in
       let W : List ℕ → Type 0 = λ xs. FormatValid f xs in

@@ -5,16 +5,19 @@
 --   input_lines  the lines of a whole input: the last may lack its end, but nothing after a line end is no line
 --   verdicts     what the first million lines answer
 --   Counts       totals that count these verdicts
+--   summary      totals as they are printed
 --   Noted        totals before and after one more verdict
 --   Closed       an intake before and after its open line ends
 --   Reads        what an intake holds after some bytes
-use Rattle.std.specs.Prelude.{◌≡◌, ℕ, ◌+◌, ◌<◌, Bool, false, cond, ◌&&◌, List, [], ◌∷◌, ◌++◌, map, length, take, is_ok, is_err, Some, None, fold, count_by, Option, Result, ◌==◌, nat_lt}
+--   ReadsMore    an intake before and after some more bytes
+use Rattle.std.specs.Prelude.{◌≡◌, ℕ, ◌+◌, ◌<◌, Bool, false, cond, ◌&&◌, List, [], ◌∷◌, ◌++◌, map, length, take, is_ok, is_err, Some, None, fold, count_by, Option, Result, ◌==◌, nat_lt, codes, decimal}
 use Rattle.std.specs.List.{flat_map, AllByRecursion}
+use Rattle.alphabet.specs.Holding.{held}
 use Rattle.alphabet.specs.declared.fault.Fault.{Fault}
+use Rattle.alphabet.specs.declared.held.Held.{Held}
 use Rattle.intake.specs.Lines.{line_verdict}
-use Rattle.intake.specs.declared.held.Line.{Line}
-use Rattle.intake.specs.declared.held.Totals.{Totals}
-use Rattle.intake.specs.declared.held.Intake.{Intake}
+use Rattle.intake.specs.declared.totals.Totals.{Totals}
+use Rattle.intake.specs.declared.input.Intake.{Intake}
 
 -- the most lines that are read
 abbrev pub most_lines : ℕ
@@ -49,6 +52,10 @@ pub record Counts (t : Totals) (ls : List (List ℕ)) : Type 0 where
   pub ok : t.ok ≡ count_by is_ok (verdicts ls)
   pub refused : t.refused ≡ count_by is_err (verdicts ls)
 
+-- totals as they are printed
+abbrev pub summary : Totals → List ℕ
+summary t = codes "lines " ++ (decimal (t.ok + t.refused) ++ (codes " ok " ++ (decimal t.ok ++ (codes " refused " ++ decimal t.refused))))
+
 -- what a verdict adds to the count of those that pass: one, while fewer than a million are counted
 abbrev pub adds : Bool → Totals → ℕ
 adds passes t = cond (nat_lt (t.ok + t.refused) most_lines && passes) 1 0
@@ -61,8 +68,8 @@ pub record Noted (before : Totals) (v : Result (Unit {0}) Fault) (after : Totals
 abbrev pub kept_bytes : ℕ
 kept_bytes = 129
 
-abbrev pub line_bytes : Line → List ℕ
-line_bytes l = take l.kept l.bytes
+abbrev pub line_bytes : Held kept_bytes → List ℕ
+line_bytes l = held l
 
 pub record Closed (before : Intake) (v : Result (Unit {0}) Fault) (after : Intake) : Type 0 where
   pub verdict : v ≡ line_verdict (line_bytes before.line)
@@ -72,6 +79,10 @@ pub record Closed (before : Intake) (v : Result (Unit {0}) Fault) (after : Intak
 pub record Reads (i : Intake) (bytes : List ℕ) : Type 0 where
   pub counts : Counts i.totals (fed bytes).0
   pub line : length (fed bytes).0 < most_lines → line_bytes i.line ≡ take kept_bytes (fed bytes).1
+
+-- an intake before and after some more bytes: whatever it had read, it has then read that and these
+abbrev pub ReadsMore : Intake → List ℕ → Intake → Type 0
+ReadsMore before more after = (bytes : List ℕ) → Reads before bytes → Reads after (bytes ++ more)
 
 -- the answer to one more byte: at a line end, the verdict of the line, while fewer than a million have ended
 abbrev pub told : List ℕ → ℕ → Option (Result (Unit {0}) Fault)

@@ -1,4 +1,4 @@
-ghost use Rattle.std.specs.Prelude.{◌≡◌, [], Some, None, MatchOption, MatchResult};
+ghost use Rattle.std.specs.Prelude.{◌≡◌, ◌==◌, [], Some, None, MatchOption, MatchResult, position};
 ghost use Rattle.intake.specs.Lines.{cut_after, line_verdict, GoodLine};
 
 use alphabet::{Fault, Refusal, WIDEST};
@@ -8,16 +8,19 @@ use paper::strip;
 /// The most bytes that a line may have, its end not counted.
 pub const LONGEST: usize = 128;
 
+// Where the first space of a line stands.
+fn space(line: &[u8]) -> Option<usize>
+    ensures { result ≡ position (λ b. b == 32) line.now }
+{
+    line.iter().position(|byte| *byte == b' ')
+}
+
 // What stands before the first space of a line, and what behind it.
 fn cut(line: &[u8]) -> Option<(&[u8], &[u8])>
     ensures { MatchOption result (cut_after [] line.now ≡ None) (λ p. cut_after [] line.now ≡ Some (p.0.now, p.1.now)) }
 {
-    for (i, byte) in line.iter().enumerate() {
-        if *byte == b' ' {
-            return Some((&line[0..i], &line[i + 1..line.len()]));
-        }
-    }
-    None
+    let at = space(line)?;
+    Some((&line[..at], &line[at + 1..]))
 }
 
 /// Judges one line, a format word, a space and a paper form: `Ok` exactly where the form is a valid number of the format.
@@ -29,15 +32,12 @@ pub fn judge(line: &[u8]) -> Result<(), Fault>
     ensures exact { MatchResult result (λ _. GoodLine line.now) (λ _. GoodLine line.now → ⊥) }
 {
     if line.len() > LONGEST {
-        return Err(Fault::whole(Refusal::Width));
+        return Err(Refusal::Width.into());
     }
-    let Some((word, form)) = cut(line) else {
-        return Err(Fault::whole(Refusal::Format));
-    };
-    let Some(format) = Format::named(word) else {
-        return Err(Fault::whole(Refusal::Format));
-    };
+    let (word, form) = cut(line).ok_or(Refusal::Format)?;
+    let format = Format::try_from(word)?;
+    // `strip` copies to a buffer of its caller and answers how much of it is the number: nothing here is on the heap
     let mut buffer = [0; WIDEST];
     let width = strip(form, &mut buffer)?;
-    format.check(&buffer[0..width])
+    format.check(&buffer[..width])
 }

@@ -1,10 +1,10 @@
 //! From the bytes of a file to verdicts: lines and totals.
 #![tactic(auto)]
 
-mod counting;
-mod held;
+mod input;
 mod judging;
+mod totals;
 
-pub use counting::MOST_LINES;
-pub use held::{Intake, Line, Totals};
+pub use input::{Intake, Line};
 pub use judging::{LONGEST, judge};
+pub use totals::{MOST_LINES, Totals};

@@ -1,20 +1,15 @@
 -- Remainders by one modulus: what may be added, multiplied and cancelled.
 use Rattle.std.proofs.Common.{◌≡◌, ℕ, zero, suc, ◌+◌, ◌*◌, ◌/◌, ◌%◌, ◌<◌, sym, ap, ◌∙◌, mod-eq_of_lt, add_comm, arith}
 use native.Mathlib.Nat.{mod-add-mod, add-mul-mod_self_left, div-add-mod}
+use Rattle.std.proofs.lemmas.Nat.{mul-mod_second}
 
 -- r times some number leaves 1, so that a factor r cancels
 abbrev pub Inverse : ℕ → ℕ → Type 0
 Inverse m r = (s : ℕ) × ((r * s) % m ≡ 1)
 
--- a factor may be reduced first
-pub mul-mod-mod : (k a m : ℕ) → (k * (a % m)) % m ≡ (k * a) % m
-mul-mod-mod k a m =
-    let e : k * a ≡ k * (a % m) + m * (k * (a / m)) = omega (arith, ap (λ (x : ℕ). k * x) (div-add-mod a m)) in
-    sym (ap (λ (x : ℕ). x % m) e ∙ add-mul-mod_self_left (k * (a % m)) m (k * (a / m)))
-
 -- remainders that agree still agree after a factor, or a summand
 pub same_mul : (m k a b : ℕ) → a % m ≡ b % m → (k * a) % m ≡ (k * b) % m
-same_mul m k a b e = sym (mul-mod-mod k a m) ∙ ap (λ (x : ℕ). (k * x) % m) e ∙ mul-mod-mod k b m
+same_mul m k a b e = sym (mul-mod_second k a m) ∙ ap (λ (x : ℕ). (k * x) % m) e ∙ mul-mod_second k b m
 
 pub same_add : (m c a b : ℕ) → a % m ≡ b % m → (a + c) % m ≡ (b + c) % m
 same_add m c a b e = sym (mod-add-mod a m c) ∙ ap (λ (x : ℕ). (x + c) % m) e ∙ mod-add-mod b m c

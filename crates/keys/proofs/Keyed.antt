@@ -1,8 +1,9 @@
 -- The laws of keys by remainder, over any modulus and any start of the key range.
 use Rattle.std.proofs.Common.{◌≡◌, ℕ, zero, suc, ◌+◌, ◌-◌, ◌*◌, ◌/◌, ◌%◌, ◌<◌, ◌≤◌, sym, ap, ◌∙◌, mod-lt, mod-eq_of_lt, zero-mul, arith}
+use Rattle.std.proofs.lemmas.Nat.{mul-mod_second}
 use native.Mathlib.Nat.{add-mod-mod, zero-mod, add-mul-mod_self_left, div-add-mod}
 use Rattle.keys.specs.Remainders.{key_from}
-use Rattle.keys.proofs.Congruent.{Inverse, mul-mod-mod, same_add, cancel_add, cancel_add_left, cancel_mul, below_same}
+use Rattle.keys.proofs.Congruent.{Inverse, same_add, cancel_add, cancel_add_left, cancel_mul, below_same}
 
 at : (m : ℕ) {a b : ℕ} → a ≡ b → a % m ≡ b % m
 at m e = ap (λ (x : ℕ). x % m) e
@@ -19,7 +20,7 @@ step_tells m r p a b ha hb e = below_same m a b ha hb (cancel_add_left m (r * p)
 pub two_steps : (m r p a b : ℕ) → (r * ((r * p + a) % m) + b) % m ≡ (r * (r * p) + (r * a + b)) % m
 two_steps m r p a b =
     let e : r * (r * p + a) + b ≡ r * (r * p) + (r * a + b) = omega arith in
-    same_add m b (r * ((r * p + a) % m)) (r * (r * p + a)) (mul-mod-mod r (r * p + a) m) ∙ at m e
+    same_add m b (r * ((r * p + a) % m)) (r * (r * p + a)) (mul-mod_second r (r * p + a) m) ∙ at m e
 
 -- and two steps tell their sequence, since the radix less one has an inverse: r a + b and r b + a differ by (r - 1) (a - b)
 pub sequence_tells : (m r p a b : ℕ) → Inverse m (r - 1) → a < m → b < m → (r * ((r * p + a) % m) + b) % m ≡ (r * ((r * p + b) % m) + a) % m → a ≡ b

@@ -4,4 +4,3 @@ pub mod Numbered
 pub mod Numbers
 pub mod Shifts
 pub mod Widths
-pub mod Writing

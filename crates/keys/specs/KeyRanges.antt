@@ -2,6 +2,7 @@
 --   keys_of     how many characters a key has
 --   takes_any   every width from one more than the key to 34, as most engines have them
 --   in_key      whether a place is one of the key's, at such a width
+--   alphabet_at the characters that may stand at a place: the key's in the key, others before it
 --   count_in    what a character counts in a key
 --   number_of   the number that a key makes: its count, or size × first count + second count
 --   holds_key   a key of the right length whose number is one of the range
@@ -10,6 +11,7 @@
 use Rattle.std.specs.Prelude.{ℕ, ◌+◌, ◌-◌, ◌*◌, ◌/◌, ◌%◌, Bool, cond, ◌&&◌, List, [], ◌∷◌, length, ◌==◌, nat_le, nat_lt, slice_index}
 use Rattle.std.specs.Option.{unwrap_or}
 use Rattle.alphabet.specs.Counts.{size, count_of, symbol_of}
+use Rattle.alphabet.specs.declared.counts.Alphabet.{Alphabet}
 use Rattle.keys.specs.declared.range.KeyLength.{KeyLength}
 use Rattle.keys.specs.declared.range.KeyLength.TheVariants.{One, Two}
 use Rattle.keys.specs.declared.range.KeyRange.{KeyRange}
@@ -23,6 +25,9 @@ takes_any r w = nat_lt (keys_of r.length) w && nat_le w 34
 
 abbrev pub in_key : KeyRange → ℕ → ℕ → Bool
 in_key r w k = takes_any r w && (nat_lt (w - keys_of r.length) k && nat_le k w)
+
+abbrev pub alphabet_at : KeyRange → Alphabet → ℕ → ℕ → Alphabet
+alphabet_at r body w k = cond (in_key r w k) r.alphabet body
 
 -- a character that is not allowed counts 0
 abbrev pub count_in : KeyRange → ℕ → ℕ

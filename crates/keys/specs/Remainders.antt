@@ -2,7 +2,8 @@
 --   key_from   the number from s on, among m, that takes x to the remainder t
 --   shifted    what a running value has become once a key has stepped over it, each character times r
 --   key_after  the number of the key, among those of a range, that takes a running value to the remainder t
-use Rattle.std.specs.Prelude.{ℕ, ◌+◌, ◌-◌, ◌*◌, ◌%◌}
+--   number_after  the same; by no modulus, the least number of the range
+use Rattle.std.specs.Prelude.{ℕ, ◌+◌, ◌-◌, ◌*◌, ◌%◌, cond, ◌==◌}
 use Rattle.keys.specs.declared.range.KeyLength.{KeyLength}
 use Rattle.keys.specs.declared.range.KeyLength.TheVariants.{One, Two}
 use Rattle.keys.specs.declared.range.KeyRange.{KeyRange}
@@ -16,3 +17,6 @@ shifted Two r v = r * (r * v)
 
 abbrev pub key_after : KeyRange → ℕ → ℕ → ℕ → ℕ → ℕ
 key_after k m r t v = key_from m k.least (shifted k.length r v) t
+
+abbrev pub number_after : KeyRange → ℕ → ℕ → ℕ → ℕ → ℕ
+number_after k m r t v = cond (m == 0) k.least (key_after k m r t v)

@@ -2,6 +2,5 @@
 #![tactic(auto)]
 
 mod range;
-mod ranges;
 
 pub use range::{KeyLength, KeyRange};

@@ -2,7 +2,6 @@
 #![tactic(auto)]
 
 mod form;
-mod rules;
 mod slips;
 
 pub use form::LetterForm;

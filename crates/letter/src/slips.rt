@@ -1,7 +1,7 @@
 ghost use Rattle.std.specs.Prelude.{ℕ, Decides};
 ghost use Rattle.letter.specs.Slips.{Stand, Pair, Replacements, Exchanges, LetterSlips};
 
-use crate::form::LetterForm;
+use crate::form::{LetterForm, MODULUS};
 
 // Whether a digit and a letter stand for each other after a running value.
 fn stand(value: u16, digit: u8, letter: u8) -> bool
@@ -10,7 +10,7 @@ fn stand(value: u16, digit: u8, letter: u8) -> bool
     match (digit, letter) {
         (b'0'..=b'9', b'A'..=b'Z') => {
             let of_letter = u32::from(letter - b'A' + 10);
-            (90 * u32::from(value) + of_letter) % 97 == u32::from(digit - b'0')
+            (90 * u32::from(value) + of_letter) % u32::from(MODULUS) == u32::from(digit - b'0')
         }
         _ => false,
     }

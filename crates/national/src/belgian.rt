@@ -2,15 +2,20 @@ ghost use Rattle.std.specs.Prelude.{◌≡◌, false};
 ghost use Rattle.national.specs.Belgian.{belgian_key, belgian_rules, BelgianSlips};
 ghost use Rattle.national.specs.BelgianLaws;
 
-use crate::accounts::BelgianKey;
-use crate::ranges::{MODULUS, key_range};
+use crate::ranges::{KEYS, MODULUS};
 use alphabet::Alphabet;
 use scheme::Engine;
+
+/// The key of a Belgian account number: twelve digits, of which the last two are the remainder of the first ten by 97, and 97
+/// where nothing remains. 539007547034 is such a number, and so is 000000009797.
+#[derive(Clone, Copy, PartialEq, Eq, Debug)]
+pub struct BelgianKey;
 
 // The one width.
 const WIDTH: usize = 12;
 
-// The key of ten digits that leave a running value. It is never 00.
+// The key of ten digits that leave a running value. It is never 00. (The hybrid systems put M for 0 too; one function for any modulus
+// would have to say something of the modulus 0, and is no plainer.)
 fn key_after(value: u16) -> u64
     ensures { result ≡ belgian_key value }
 {
@@ -44,7 +49,7 @@ impl Engine for BelgianKey {
     }
 
     fn keys(&self) -> usize {
-        key_range().keys()
+        KEYS.keys()
     }
 
     fn count(&self, _width: usize, _place: usize, character: u8) -> Option<u8> {
@@ -52,7 +57,7 @@ impl Engine for BelgianKey {
     }
 
     fn in_range(&self, key: &[u8]) -> bool {
-        key_range().holds(key)
+        KEYS.holds(key)
     }
 
     fn initial(&self) -> u16 {
@@ -76,6 +81,6 @@ impl Engine for BelgianKey {
     }
 
     fn write_key(&self, _width: usize, value: u16, key: &mut [u8]) {
-        key_range().write(key_after(value), key)
+        KEYS.write(key_after(value), key)
     }
 }

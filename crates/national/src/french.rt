@@ -2,10 +2,14 @@ ghost use Rattle.std.specs.Prelude.{◌≡◌, Decides};
 ghost use Rattle.national.specs.French.{french_count, french_count_at, french_rules, EqualCount, FrenchSlips};
 ghost use Rattle.national.specs.FrenchLaws;
 
-use crate::accounts::FrenchKey;
-use crate::ranges::{MODULUS, key_range};
+use crate::ranges::{KEYS, MODULUS};
 use alphabet::Alphabet;
 use scheme::Engine;
+
+/// The key of a French account number (RIB): ten digits for bank and branch, eleven digits or letters for the account, and two
+/// key digits. 20041010050500013M02606 is such a number.
+#[derive(Clone, Copy, PartialEq, Eq, Debug)]
+pub struct FrenchKey;
 
 // The one width.
 const WIDTH: usize = 23;
@@ -68,7 +72,7 @@ impl Engine for FrenchKey {
     }
 
     fn keys(&self) -> usize {
-        key_range().keys()
+        KEYS.keys()
     }
 
     fn count(&self, _width: usize, place: usize, character: u8) -> Option<u8> {
@@ -76,7 +80,7 @@ impl Engine for FrenchKey {
     }
 
     fn in_range(&self, key: &[u8]) -> bool {
-        key_range().holds(key)
+        KEYS.holds(key)
     }
 
     fn initial(&self) -> u16 {
@@ -92,7 +96,6 @@ impl Engine for FrenchKey {
     }
 
     fn write_key(&self, _width: usize, value: u16, key: &mut [u8]) {
-        let range = key_range();
-        range.write(range.number_after(MODULUS, 10, self.target(), value), key)
+        KEYS.write_after(MODULUS, 10, self.target(), value, key)
     }
 }

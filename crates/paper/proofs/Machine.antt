@@ -1,12 +1,12 @@
 -- Where the machine of gather stands after i bytes of a form, and what one byte more does.
-use Rattle.std.proofs.Common.{◌≡◌, ℕ, suc, ◌+◌, ◌-◌, ◌<◌, ◌≤◌, true, false, cond, ltb, List, [], ◌∷◌, ◌++◌, length, get_or, take, set, Some, None, Option, sym, refl, ap, ◌∙◌, append-nil, arith}
+use Rattle.std.proofs.Common.{◌≡◌, ℕ, suc, ◌+◌, ◌-◌, ◌<◌, ◌≤◌, true, false, cond, ltb, List, [], ◌∷◌, ◌++◌, length, get_or, take, Some, None, Option, sym, refl, ap, ◌∙◌, append-nil, arith}
 use Rattle.std.proofs.lemmas.List.Elements.{filter_more}
-use Rattle.std.proofs.lemmas.List.{length_push, length-set, take_more_set}
 use Rattle.std.proofs.lemmas.Bool.{cond-true, cond-false, or_left, or_right, or_from, and_from, and_left, and_right, lt-ltb}
+use Rattle.alphabet.proofs.Buffers.{kept_more}
 use Rattle.alphabet.specs.Characters.{is_character}
 use Rattle.paper.specs.Paper.{is_gap, right, first_failing, wrong_at, stripped}
-use Rattle.paper.specs.declared.state.State.{State}
-use Rattle.paper.specs.declared.state.State.TheVariants.{Start, InGroup, AfterGap}
+use Rattle.paper.specs.declared.forms.State.{State}
+use Rattle.paper.specs.declared.forms.State.TheVariants.{Start, InGroup, AfterGap}
 
 -- the first wrong place from index k on
 abbrev pub wrong_from : List ℕ → ℕ → Option ℕ
@@ -129,56 +129,28 @@ no_more form i l e =
     ∙ append-nil (stripped (take i form))
 
 -- What the machine holds after i bytes: where it stands, and the characters, up to as many as there is room for.
-pub record Reading (s : State) (form : List ℕ) (i width : ℕ) (bytes : List ℕ) : Type 0 where
+pub record Reading (s : State) (form : List ℕ) (i : ℕ) (text : List ℕ) : Type 0 where
   pub stands : Stands s form i
-  pub behind : width ≤ i
-  pub counted : width ≡ length (stripped (take i form))
-  pub room : length bytes ≡ 34
-  pub held : width ≤ 34 → take width bytes ≡ stripped (take i form)
+  pub held : text ≡ take 35 (stripped (take i form))
 
--- so a character adds one to the width
-count_more : (form : List ℕ) (i width : ℕ) → i < length form → is_character (get_or form i 0) ≡ true →
-    width ≡ length (stripped (take i form)) → width + 1 ≡ length (stripped (take (i + 1) form))
-count_more form i width l e h =
-    omega (arith, ap length (one_more form i l e), length_push (stripped (take i form)) (get_or form i 0))
-
--- a character that there is room for
-pub written : (s : State) (form : List ℕ) (i width : ℕ) (bytes : List ℕ) → Reading s form i width bytes →
-    i < length form → is_character (get_or form i 0) ≡ true → width < 34 →
-    Reading InGroup form (i + 1) (width + 1) (set bytes width (get_or form i 0))
-written s form i width bytes v l e k =
+-- a character, be there room for it or not
+pub written : (s : State) (form : List ℕ) (i : ℕ) (text more : List ℕ) → Reading s form i text →
+    i < length form → is_character (get_or form i 0) ≡ true → more ≡ take 35 (text ++ get_or form i 0 ∷ []) →
+    Reading InGroup form (i + 1) more
+written s form i text more v l e k =
     let b = get_or form i 0 in
-    let put = take_more_set bytes width b (omega (arith, v.room)) in
     record {
       stands = by_character s form i l e v.stands;
-      behind = omega (arith, v.behind);
-      counted = count_more form i width l e v.counted;
-      room = length-set bytes width b ∙ v.room;
-      held = λ _. put ∙ ap (λ xs. xs ++ b ∷ []) (v.held (omega arith)) ∙ sym (one_more form i l e);
-    }
-
--- a character past the last that there is room for
-pub counted_only : (s : State) (form : List ℕ) (i width : ℕ) (bytes : List ℕ) → Reading s form i width bytes →
-    i < length form → is_character (get_or form i 0) ≡ true → 34 ≤ width → Reading InGroup form (i + 1) (width + 1) bytes
-counted_only s form i width bytes v l e k =
-    record {
-      stands = by_character s form i l e v.stands;
-      behind = omega (arith, v.behind);
-      counted = count_more form i width l e v.counted;
-      room = v.room;
-      held = λ h. absurd (omega arith);
+      held =
+          k ∙ ap (λ xs. take 35 (xs ++ b ∷ [])) v.held ∙ kept_more 35 (stripped (take i form)) (b ∷ []) ∙ ap (take 35) (sym (one_more form i l e));
     }
 
 -- a gap in a group
-pub passed : (form : List ℕ) (i width : ℕ) (bytes : List ℕ) → Reading InGroup form i width bytes →
+pub passed : (form : List ℕ) (i : ℕ) (text : List ℕ) → Reading InGroup form i text →
     i < length form → is_character (get_or form i 0) ≡ false → is_gap (get_or form i 0) ≡ true →
-    Reading AfterGap form (i + 1) width bytes
-passed form i width bytes v l e g =
-    let m = no_more form i l e in
+    Reading AfterGap form (i + 1) text
+passed form i text v l e g =
     record {
       stands = by_gap form i e g v.stands;
-      behind = omega (arith, v.behind);
-      counted = v.counted ∙ ap length (sym m);
-      room = v.room;
-      held = λ h. v.held h ∙ sym m;
+      held = v.held ∙ ap (take 35) (sym (no_more form i l e));
     }

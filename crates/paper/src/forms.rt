@@ -1,46 +1,58 @@
-ghost use Rattle.std.specs.Prelude.{◌≡◌, ◌≤◌, length, take, IfOk, if◌then◌else◌, Some, None, MatchResult};
+ghost use Rattle.std.specs.Prelude.{◌≡◌, ◌≤◌, min, length, IfOk, if◌then◌else◌, Some, None, MatchResult};
 ghost use Rattle.std.specs.Option.{option_map};
 ghost use Rattle.alphabet.specs.Characters.{is_character};
+ghost use Rattle.alphabet.specs.Holding.{held};
 ghost use Rattle.alphabet.specs.Faults.{answer, fault_at};
 ghost use Rattle.alphabet.specs.declared.fault.Refusal.TheVariants.{Stray};
 ghost use Rattle.paper.specs.Paper.{is_gap, wrong_at, stripped, stripping, afterwards};
 
-use crate::state::{Class, State};
-use alphabet::{Fault, Refusal, WIDEST, is_character};
+use alphabet::{Fault, Held, Refusal, WIDEST, is_character};
 
-// How many characters a form has, and the first of them, as many as a text may have.
-struct Gathered {
-    width: usize,
-    bytes: [u8; WIDEST],
+// One character more than a text may have, so that a form that is too wide stays too wide.
+const KEPT: usize = 35;
+
+// Where strip stands in a form.
+#[derive(Clone, Copy, PartialEq, Eq, Debug)]
+enum State {
+    Start,
+    InGroup,
+    AfterGap,
 }
 
-fn class(byte: u8) -> Class
-    ensures { result ≡ (if is_character byte then Class.Character else (if is_gap byte then Class.Gap else Class.Other)) }
-{
-    match byte {
-        b' ' | b'-' => Class::Gap,
-        _ if is_character(byte) => Class::Character,
-        _ => Class::Other,
+// What a byte is to strip.
+#[derive(Clone, Copy, PartialEq, Eq, Debug)]
+enum Class {
+    Character,
+    Gap,
+    Other,
+}
+
+impl From<u8> for Class {
+    ghost use Rattle.paper.specs.declared.forms.Class.TheVariants.{Character, Gap, Other};
+
+    ghost from_gives = { λ byte class. class ≡ (if is_character byte then Character else (if is_gap byte then Gap else Other)) };
+
+    fn from(byte: u8) -> Class {
+        match byte {
+            b' ' | b'-' => Class::Gap,
+            _ if is_character(byte) => Class::Character,
+            _ => Class::Other,
+        }
     }
 }
 
-// Runs the machine over the form. It counts past the widest text without writing, so that a form of any length has a
-// width; after a gap, any byte but a character makes the gap the wrong one.
-fn gather(form: &[u8]) -> Result<Gathered, Fault>
+// Runs the machine over the form, and holds its characters. After a gap, any byte but a character makes the gap the wrong one.
+fn gather(form: &[u8]) -> Result<Held<KEPT>, Fault>
     ensures wrong { MatchResult result (λ _. wrong_at form.now ≡ None) (λ f. option_map (fault_at Stray 0) (wrong_at form.now) ≡ Some f) }
-    ensures counted { IfOk result (λ g. g.width ≡ length (stripped form.now)) }
-    ensures held { IfOk result (λ g. g.width ≤ 34 → take g.width g.bytes ≡ stripped form.now) }
+    ensures counted { IfOk result (λ h. length (held h) ≡ min KEPT (length (stripped form.now))) }
+    ensures whole { IfOk result (λ h. length (held h) ≤ WIDEST → held h ≡ stripped form.now) }
 {
     let mut state = State::Start;
-    let mut width = 0;
-    let mut bytes = [0; WIDEST];
+    let mut text = Held::new();
     for (i, byte) in form.iter().enumerate() {
-        state = match (state, class(*byte)) {
+        state = match (state, Class::from(*byte)) {
             (_, Class::Character) => {
-                if width < WIDEST {
-                    bytes[width] = *byte;
-                }
-                width += 1;
+                text.push(*byte);
                 State::InGroup
             }
             (State::InGroup, Class::Gap) => State::AfterGap,
@@ -50,7 +62,7 @@ fn gather(form: &[u8]) -> Result<Gathered, Fault>
     }
     match state {
         State::AfterGap => Err(Fault::new(Refusal::Stray, 0, form.len())),
-        State::Start | State::InGroup => Ok(Gathered { width, bytes }),
+        State::Start | State::InGroup => Ok(text),
     }
 }
 
@@ -62,14 +74,16 @@ pub fn strip(form: &[u8], buffer: &mut [u8]) -> Result<usize, Fault>
     ensures answers { result ≡ answer (length (stripped form.now)) (stripping form.now (length buffer.old)) }
     ensures after { buffer.new ≡ afterwards (stripping form.now (length buffer.old)) form.now buffer.old }
 {
-    let Gathered { width, bytes } = gather(form)?;
+    let gathered = gather(form)?;
+    let text = gathered.as_slice();
+    let width = text.len();
     if width == 0 || width > WIDEST {
-        return Err(Fault::whole(Refusal::Width));
+        return Err(Refusal::Width.into());
     }
     if buffer.len() < width {
-        return Err(Fault::whole(Refusal::Short));
+        return Err(Refusal::Short.into());
     }
-    buffer[..width].copy_from_slice(&bytes[..width]);
+    buffer[..width].copy_from_slice(text);
     Ok(width)
 }
 
@@ -105,14 +119,11 @@ mod tests {
 
     #[test]
     fn holds_to_the_width_and_the_room(rt: HostRuntime) {
-        refused(&rt, b"", Fault::whole(Refusal::Width));
-        refused(&rt, &[b'9'; 35], Fault::whole(Refusal::Width));
+        refused(&rt, b"", Refusal::Width.into());
+        refused(&rt, &[b'9'; 35], Refusal::Width.into());
         let mut room = [7; 34];
         assert_eq!(rt; strip(&[b'9'; 34], &mut room), Ok(34));
-        assert_eq!(rt;
-            strip(b"12-3", &mut room[..2]),
-            Err(Fault::whole(Refusal::Short))
-        );
+        assert_eq!(rt; strip(b"12-3", &mut room[..2]), Err(Refusal::Short.into()));
         assert_eq!(rt; room, [b'9'; 34]);
     }
 }

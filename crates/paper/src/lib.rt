@@ -2,6 +2,5 @@
 #![tactic(auto)]
 
 mod forms;
-mod state;
 
 pub use forms::strip;

@@ -5,7 +5,7 @@
 //! 000000012146438X; MOD 97-10 guards references and accounts, as 79444.
 #![tactic(auto)]
 
-mod parameters;
 mod systems;
 
-pub use parameters::{KeyLength, Parameters, Pure};
+pub use keys::{KeyLength, KeyRange};
+pub use systems::{Parameters, Pure};

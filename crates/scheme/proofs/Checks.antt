@@ -1,5 +1,5 @@
 -- A text is valid exactly where its verdict is good.
-use Rattle.std.proofs.Common.{◌≡◌, ℕ, false, List, length, Some, None, Ok, Err, Result, sym, ap, ◌∙◌, subst, arith, MatchResult}
+use Rattle.std.proofs.Common.{◌≡◌, ℕ, false, List, length, Some, None, Ok, Err, IsErrAnd, Result, sym, ap, ◌∙◌, subst, arith, MatchResult}
 use Rattle.alphabet.specs.Faults.{answer}
 use Rattle.alphabet.specs.Readings.{reading, in_text, opening, Text}
 use Rattle.alphabet.specs.declared.fault.Fault.{Fault}
@@ -48,13 +48,21 @@ module _ {V : Type 0} (m : Meaning V) (turn : Turn) (t : List ℕ) (law : m.unfi
         let x : Text cs = subst P (sym same) (reading-text turn t (opening_none turn t o).0) in
         told u x last ∙ ap (λ (xs : List ℕ). answer tt (m.fault xs)) same
 
-    pub at_good : r ≡ Ok tt → (verdict m turn t ≡ Ok tt) × Valid m turn t
+    at_good : r ≡ Ok tt → (verdict m turn t ≡ Ok tt) × Valid m turn t
     at_good e =
         let f = (ruled r told_of_reading).0 e in
         let v = none_valid u o f in
         (valid_none v, v)
 
-    pub at_fault : (f : Fault) → r ≡ Err f → verdict m turn t ≡ Err (in_text turn (length t) f)
+    at_fault : (f : Fault) → r ≡ Err f → verdict m turn t ≡ Err (in_text turn (length t) f)
     at_fault f e =
         let g = (ruled r told_of_reading).1 f e in
         grind arith
+
+    -- the scheme's answer with the place in the text, as s has it by what the mapping of a fault ensures
+    pub answered : (post : Fault → Fault → Type 0) → ((f x : Fault) → post f x → x ≡ in_text turn (length t) f) → (q s : Result (Unit {0}) Fault) → r ≡ q →
+        MatchResult q (λ x. s ≡ Ok x) (λ f. IsErrAnd s (post f)) → (s ≡ verdict m turn t) × MatchResult s (λ _. Valid m turn t) (λ _. Valid m turn t → ⊥)
+    answered post says (Ok x) (Ok y) e h = let p = at_good e in (sym p.0, p.1)
+    answered post says (Ok x) (Err y) e h = absurd (let z : ◌≡◌ {A = ℕ} 0 1 = cc in let n : ⊥ = omega arith in n)
+    answered post says (Err f) (Ok y) e h = absurd h
+    answered post says (Err f) (Err y) e h = let a = at_fault f e ∙ ap Err (sym (says f y h)) in (sym a, refused_not y a)

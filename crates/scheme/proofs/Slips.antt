@@ -1,9 +1,9 @@
 -- The law of slips: of an accepted reading, a slip is accepted exactly where it is fit and the running values after the
 -- last changed place are equal.
-use Rattle.std.proofs.Common.{◌≡◌, ℕ, zero, suc, ◌+◌, ◌-◌, ◌≤◌, min, Bool, true, false, ◌≢◌, List, [], ◌∷◌, ◌++◌, length, get_or, take, drop, Decides, sym, ap, ◌∙◌, subst, inl, inr, append_assoc, add-zero, arith, length-append, length-drop}
+use Rattle.std.proofs.Common.{◌≡◌, ℕ, zero, suc, ◌+◌, ◌-◌, ◌≤◌, min, Bool, true, false, ◌≢◌, List, [], ◌∷◌, ◌++◌, length, get_or, take, drop, Decides, sym, ap, ◌∙◌, subst, append_assoc, add-zero, arith, length-append, length-drop}
 use Rattle.std.proofs.ByRecursion.{All-take, All-drop}
-use Rattle.std.proofs.lemmas.List.{get_or-drop, take_all, take_at, take-append-drop, length-take-le}
-use Rattle.std.proofs.lemmas.Bool.{both_ways, cases_lt}
+use Rattle.std.proofs.lemmas.List.{get_or-drop, take_at, take-append-drop, length-take-le}
+use Rattle.std.proofs.lemmas.Bool.{both_ways}
 use Rattle.std.proofs.lemmas.Bool.Decides.{nat_tests, Decides-like}
 use Rattle.alphabet.specs.Characters.{is_character, Characters}
 use Rattle.alphabet.specs.Readings.{Text}
@@ -83,11 +83,11 @@ module _ {V : Type 0} (m : Meaning V) where
   after_exchanged xs a b ys = after_part xs (a ∷ b ∷ []) ys
 
 -- one place back, where the two lists are the same at it; and where they are not
-pub last_back : (x y : List ℕ) (k : ℕ) → 1 ≤ k → get_or x (k - 1) 0 ≡ get_or y (k - 1) 0 → last_below x y k ≡ last_below x y (k - 1)
+last_back : (x y : List ℕ) (k : ℕ) → 1 ≤ k → get_or x (k - 1) 0 ≡ get_or y (k - 1) 0 → last_below x y k ≡ last_below x y (k - 1)
 last_back x y zero h e = absurd (let n : ⊥ = omega arith in n)
 last_back x y (suc n) h e = let p : suc n - 1 ≡ n = omega arith in let t = simp p at e in rw p (grind (arith, nat_tests))
 
-pub last_here : (x y : List ℕ) (k : ℕ) → 1 ≤ k → get_or x (k - 1) 0 ≢ get_or y (k - 1) 0 → last_below x y k ≡ k
+last_here : (x y : List ℕ) (k : ℕ) → 1 ≤ k → get_or x (k - 1) 0 ≢ get_or y (k - 1) 0 → last_below x y k ≡ k
 last_here x y zero h d = absurd (let n : ⊥ = omega arith in n)
 last_here x y (suc n) h d = let p : suc n - 1 ≡ n = omega arith in let t = simp p at d in grind (arith, nat_tests)
 
@@ -109,14 +109,6 @@ slip_last {x} {y} s =
     let d = slip_differs s in
     ap (last_below x y) all ∙ last_same x y n (length x - n) (slip_rest s) ∙ last_here x y n d.0 d.1
 
--- the first n characters of a reading that may have fewer
-pub take_least : (n k : ℕ) (r : List ℕ) → k ≡ min n (length r) → take (k - 0) r ≡ take n r
-take_least n k r e =
-    elim (cases_lt n (length r)) [
-      | inl h ↦ let p : k - 0 ≡ n = omega arith in rw p
-      | inr h ↦ take_all (k - 0) r (omega arith) ∙ sym (take_all n r h)
-    ]
-
 -- what the test of a slip tells, by its two parts, and that it tells whether the slip is accepted
 module _ {V : Type 0} (m : Meaning V) (x y : List ℕ) (r : Bool) where
   pub passing_same : (n : ℕ) (u v : V) → n ≡ last_difference x y → u ≡ value_after m x n → v ≡ value_after m y n → m.fit y ≡ true → Decides r (u ≡ v) → Decides r (Passing m x y (last_difference x y))
@@ -132,3 +124,7 @@ module _ {V : Type 0} (m : Meaning V) (x y : List ℕ) (r : Bool) where
       let l = law_of_slips m (law u) x y s t a in
       let P : ℕ → Type 0 = λ k. Decides r (Passing m x y k) in
       Decides-like r l.1 l.0 (subst P (slip_last s) d)
+
+-- an equality that holds of each value and itself, and of no others, decides whether two are the same
+pub told : {V : Type 0} (eq : V → V → Bool) → ((u v : V) → eq u v ≡ true → u ≡ v) → ((u : V) → eq u u ≡ true) → (r : Bool) (u v : V) → r ≡ eq u v → Decides r (u ≡ v)
+told eq exact same r u v e = (λ t. exact u v (sym e ∙ t), λ p. e ∙ ap (eq u) (sym p) ∙ same u)

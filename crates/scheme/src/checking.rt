@@ -9,11 +9,12 @@ use alphabet::{Fault, Reading, Refusal, Turn};
 pub(crate) fn value_over<S: Scheme>(scheme: &S, width: usize, characters: &[u8]) -> S::Value
     ensures { result ≡ run_from (S.meaning scheme.now) width 1 (S.meaning scheme.now).start characters.now }
 {
-    let mut value = scheme.start();
-    for (i, character) in characters.iter().enumerate() {
-        value = scheme.next(width, i + 1, value, *character);
-    }
-    value
+    characters
+        .iter()
+        .enumerate()
+        .fold(scheme.start(), |value, (i, character)| {
+            scheme.next(width, i + 1, value, *character)
+        })
 }
 
 /// The running value after the last character of a reading.
@@ -32,13 +33,12 @@ pub fn check<S: Scheme>(scheme: &S, turn: Turn, text: &[u8]) -> Result<(), Fault
     ensures exact { MatchResult result (λ _. Valid (S.meaning scheme.now) turn text.now) (λ _. Valid (S.meaning scheme.now) turn text.now → ⊥) }
 {
     if scheme.unfit() {
-        return Err(Fault::whole(Refusal::Unfit));
+        return Err(Refusal::Unfit.into());
     }
     let reading = Reading::of(turn, text)?;
     let characters = reading.characters();
     let last = last_value(scheme, characters);
-    match scheme.accept(characters, last) {
-        Ok(()) => Ok(()),
-        Err(fault) => Err(fault.in_text(turn, text.len())),
-    }
+    scheme
+        .accept(characters, last)
+        .map_err(|fault| fault.in_text(turn, text.len()))
 }

@@ -12,5 +12,5 @@ mod slipping;
 pub use checking::{check, last_value};
 pub use engines::Engine;
 pub use schemes::Scheme;
-pub use shared::fill;
+pub use shared::{accepts, fill, fits};
 pub use slipping::{slip_passes, value_after};

@@ -1,4 +1,4 @@
-ghost use Rattle.std.specs.Prelude.{◌≡◌, ◌-◌, ◌^◌, min, false, Decides};
+ghost use Rattle.std.specs.Prelude.{◌≡◌, ◌-◌, ◌^◌, min, true, false};
 ghost use Rattle.alphabet.specs.Faults.{answer};
 ghost use Rattle.alphabet.specs.Readings.{Text};
 ghost use Rattle.scheme.specs.Meaning.{Meaning, Lawful, run};
@@ -11,7 +11,7 @@ use alphabet::Fault;
 /// that it answers as the meaning does. Code that works with any scheme rests on nothing else.
 pub trait Scheme {
     /// The running values.
-    type Value: Copy;
+    type Value: Copy + Eq;
 
     // What the scheme is, in one value.
     ghost meaning: { Self → Meaning Self.Value };
@@ -33,16 +33,13 @@ pub trait Scheme {
         ensures { result ≡ (meaning self.now).start };
 
     /// The running value after `character`, which stands at `place` of a reading of `width` characters.
+    // a step is defined at any width and place, so a type for the two would promise nothing, and each call would have to make one
     fn next(&self, width: usize, place: usize, value: Self::Value, character: u8) -> Self::Value
         ensures { result ≡ (meaning self.now).next width place value character };
 
     /// The one last running value that is good.
     fn good(&self) -> Self::Value
         ensures { result ≡ (meaning self.now).good };
-
-    /// Whether two running values are the same.
-    fn same(&self, one: Self::Value, other: Self::Value) -> bool
-        ensures { Decides result (one ≡ other) };
 
     /// Whether a reading is fit.
     fn fit(&self, reading: &[u8]) -> bool
@@ -55,6 +52,9 @@ pub trait Scheme {
     /// Fills the key places of a reading with the key that makes it accepted, where there is one.
     fn key(&self, reading: &mut [u8])
         ensures { reading.new ≡ (meaning self.now).keyed reading.old };
+
+    // Running values that compare equal are the same.
+    ghost exact: { (u v : Self.Value) → Self.Value.eq u v ≡ true → u ≡ v };
 
     // What its author shows of that.
     ghost lawful: { (s : Self) → (meaning s).unfit ≡ false → Lawful (meaning s) };

@@ -11,12 +11,11 @@ fn first_uncounted<E: Engine>(engine: &E, reading: &[u8]) -> Option<usize>
     ensures { result ≡ uncounted (E.rules engine.now) (length reading.now) 1 reading.now }
 {
     let width = reading.len();
-    for (i, character) in reading.iter().enumerate() {
-        if engine.count(width, i + 1, *character).is_none() {
-            return Some(i + 1);
-        }
-    }
-    None
+    reading
+        .iter()
+        .enumerate()
+        .position(|(i, character)| engine.count(width, i + 1, *character).is_none())
+        .map(|i| i + 1)
 }
 
 // The characters of the key, at a width that the engine has.
@@ -24,8 +23,7 @@ fn key_part<'r, E: Engine>(engine: &E, reading: &'r [u8]) -> &'r [u8]
     requires { (E.rules engine.now).takes (length reading.now) ≡ true }
     ensures { result.now ≡ key_part (E.rules engine.now) reading.now }
 {
-    let end = reading.len() - engine.keys();
-    &reading[end..reading.len()]
+    &reading[reading.len() - engine.keys()..]
 }
 
 // Answers well where a reading is fit for an engine, else its first fault: a width that the engine lacks, a character
@@ -46,16 +44,16 @@ fn fitness<E: Engine>(engine: &E, reading: &[u8]) -> Result<(), Fault>
     Ok(())
 }
 
-// Whether a reading is fit for an engine.
-pub(crate) fn fits<E: Engine>(engine: &E, reading: &[u8]) -> bool
+/// Whether a reading is fit for an engine.
+pub fn fits<E: Engine>(engine: &E, reading: &[u8]) -> bool
     ensures { result ≡ (single (E.rules engine.now)).fit reading.now }
 {
     fitness(engine, reading).is_ok()
 }
 
-// Accepts a reading whose last running value is `last`, or answers its first fault; where it is fit, that is the
-// remainder.
-pub(crate) fn accepts<E: Engine>(engine: &E, reading: &[u8], last: u16) -> Result<(), Fault>
+/// Accepts a reading whose last running value is `last`, or answers its first fault; where it is fit, that is the
+/// remainder.
+pub fn accepts<E: Engine>(engine: &E, reading: &[u8], last: u16) -> Result<(), Fault>
     ensures { last ≡ last_of (E.rules engine.now) reading.now → result ≡ answer tt ((single (E.rules engine.now)).fault reading.now) }
 {
     fitness(engine, reading)?;
@@ -79,15 +77,17 @@ pub(crate) fn next_value<E: Engine>(
     engine.step(width, place, value, count)
 }
 
-// The running value before the key of a reading of `width`, after the characters that stand before it.
+// The running value before the key of a reading of `width`, after the characters that stand before it. An engine is a scheme, and
+// `value_over` would serve; but then `fill`, which is that scheme's `key`, is in a circle of calls and wants its proof by hand: no plainer.
 fn value_before<E: Engine>(engine: &E, width: usize, characters: &[u8]) -> u16
     ensures { result ≡ run_by (next_by (E.rules engine.now)) width 1 (E.rules engine.now).start characters.now }
 {
-    let mut value = engine.initial();
-    for (i, character) in characters.iter().enumerate() {
-        value = next_value(engine, width, i + 1, value, *character);
-    }
-    value
+    characters
+        .iter()
+        .enumerate()
+        .fold(engine.initial(), |value, (i, character)| {
+            next_value(engine, width, i + 1, value, *character)
+        })
 }
 
 /// Writes the one key of a reading into its last places, at a width that the engine has; at any other, nothing.
@@ -98,7 +98,7 @@ pub fn fill<E: Engine>(engine: &E, reading: &mut [u8])
     let width = reading.len();
     if engine.takes(width) {
         let end = width - engine.keys();
-        let value = value_before(engine, width, &reading[0..end]);
-        engine.write_key(width, value, &mut reading[end..width]);
+        let value = value_before(engine, width, &reading[..end]);
+        engine.write_key(width, value, &mut reading[end..]);
     }
 }

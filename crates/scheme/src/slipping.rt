@@ -12,19 +12,18 @@ pub fn value_after<S: Scheme>(scheme: &S, reading: &[u8], places: usize) -> S::V
     ensures { result ≡ value_after (S.meaning scheme.now) reading.now places }
 {
     let width = reading.len();
-    value_over(scheme, width, &reading[0..places.min(width)])
+    value_over(scheme, width, &reading[..places.min(width)])
 }
 
-// The last place at which two readings of one width differ, or 0 where they do not.
+// The last place at which two readings of one width differ, or 0 where they do not: that many places `value_after` then runs over.
+// (By `zip` and `rposition` the proof did not close.)
 fn last_difference(one: &[u8], other: &[u8]) -> usize
     ensures { result ≡ last_difference one.now other.now }
 {
-    for i in (0..one.len().min(other.len())).rev() {
-        if one[i] != other[i] {
-            return i + 1;
-        }
-    }
-    0
+    (0..one.len().min(other.len()))
+        .rev()
+        .find(|i| one[*i] != other[*i])
+        .map_or(0, |i| i + 1)
 }
 
 /// Whether a slip of an accepted reading passes, that is, is accepted too: whether it is fit, and after the last place at which
@@ -39,5 +38,5 @@ pub fn slip_passes<S: Scheme>(scheme: &S, reading: &[u8], slip: &[u8]) -> bool
 {
     let place = last_difference(reading, slip);
     let before = value_after(scheme, reading, place);
-    scheme.fit(slip) && scheme.same(before, value_after(scheme, slip, place))
+    scheme.fit(slip) && before == value_after(scheme, slip, place)
 }

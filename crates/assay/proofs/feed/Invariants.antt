@@ -1,7 +1,7 @@
-use Rattle.std.proofs.Common.{ℕ, List, ◌++◌, take}
-use Rattle.intake.specs.Inputs.{Reads}
+use Rattle.std.proofs.Common.{take}
+use Rattle.intake.specs.Inputs.{ReadsMore}
 use Rattle.assay.proofs.feed.Given as goal
 
 -- every byte so far is read
 abbrev pub invariant-loop-byte : goal.invariant-loop-byte
-invariant-loop-byte g l = (bytes : List ℕ) → Reads l.initial.intake bytes → Reads l.intake (bytes ++ take l.byte-index l.block)
+invariant-loop-byte g l = ReadsMore l.initial.intake (take l.byte-index l.block) l.intake

@@ -1,11 +1,12 @@
 -- Each way through a turn, and each exit, by the lemma of its arm.
-use Rattle.std.proofs.Common.{◌≡◌, ◌<◌, ◌≤◌, true, false, length, get_or, Some, ap, ◌∙◌, arith, rules}
-use Rattle.std.proofs.lemmas.List.{take_all, get_or_past}
+use Rattle.std.proofs.Common.{◌≡◌, ◌<◌, true, false, length, length-take, get_or, take, ap, ◌∙◌, arith, rules}
+use Rattle.std.proofs.lemmas.List.{take_all}
+use Rattle.alphabet.specs.Holding.{held}
 use Rattle.alphabet.specs.Characters.{is_character}
 use Rattle.paper.specs.Paper.{is_gap, stripped}
-use Rattle.paper.specs.declared.state.State.TheVariants.{InGroup, AfterGap}
-use Rattle.paper.proofs.Machine.{Stands, Reading, lost_gap, stray, finished, written, counted_only, passed}
-use Rattle.paper.proofs.forms.gather.Goals.{in_default-Character, then-width-lt-WIDEST, else-width-lt-WIDEST, in-InGroup-Gap}
+use Rattle.paper.specs.declared.forms.State.TheVariants.{InGroup, AfterGap}
+use Rattle.paper.proofs.Machine.{Stands, Reading, lost_gap, stray, finished, written, passed}
+use Rattle.paper.proofs.forms.gather.Goals.{in_default-Character, in-InGroup-Gap}
 use Rattle.paper.proofs.forms.gather.Goals as goal
 
 pub returns-in_default : goal.returns-in_default
@@ -34,34 +35,18 @@ loop-i-preserved c =
     let i = c.loop-i.i in
     let l : i < length form = omega arith in
     let v = c.loop-i.invariant in
-    elim c.match-class.branch [
+    elim c.match-from.branch [
       | in_default-Character w ↦
           let e : is_character (get_or form i 0) ≡ true = grind arith in
-          elim w.if-width-lt-WIDEST.branch [
-            | then-width-lt-WIDEST w' ↦
-                rw (w.state-is, w.width-is, w.bytes-is, w'.bytes-is) (written _ form i _ _ v l e (omega arith))
-            | else-width-lt-WIDEST w' ↦
-                rw (w.state-is, w.width-is, w.bytes-is, w'.bytes-is) (counted_only _ form i _ _ v l e (omega arith))
-          ]
+          rw (w.state-is, w.text-is) (written _ form i _ _ v l e (search rules))
       | in-InGroup-Gap w ↦
           let e : is_character (get_or form i 0) ≡ false = grind arith in
           let g : is_gap (get_or form i 0) ≡ true = grind arith in
-          let u : Reading InGroup form i c.loop-i.width c.loop-i.bytes = rw w.in-InGroup-Gap.is-0 at v in
-          rw (w.state-is, w.width-is, w.bytes-is) (passed form i _ _ u l e g)
+          let u : Reading InGroup form i (held c.loop-i.text) = rw w.in-InGroup-Gap.is-0 at v in
+          rw (w.state-is, w.text-is) (passed form i _ u l e g)
     ]
 
 -- past the end `get_or` gives 0, which is no character
-pub returns-in-AfterGap : goal.returns-in-AfterGap
-returns-in-AfterGap c =
-    let form = c.args.form.now in
-    let i = c.loop-i.i in
-    let past : length form ≤ i = omega arith in
-    let e : is_character (get_or form i 0) ≡ false = ap is_character (get_or_past form i 0 past) in
-    let v : Stands AfterGap form i = rw c.in-AfterGap.is at c.loop-i.invariant.stands in
-    let q : i ≡ length form = omega arith in
-    let w = lost_gap form i (omega arith) e v ∙ ap Some q in
-    search rules
-
 pub returns-in-Start : goal.returns-in-Start
 returns-in-Start c =
     let form = c.args.form.now in
@@ -69,8 +54,9 @@ returns-in-Start c =
     let v = c.loop-i.invariant in
     let t = take_all i form (omega arith) in
     let n : c.loop-i.state ≡ AfterGap → ⊥ = grind arith in
+    let h : held c.loop-i.text ≡ take 35 (stripped form) = v.held ∙ ap (λ xs. take 35 (stripped xs)) t in
     record {
       wrong = finished c.loop-i.state form i (omega arith) n v.stands;
-      counted = v.counted ∙ ap (λ xs. length (stripped xs)) t;
-      held = λ h. v.held h ∙ ap stripped t;
+      counted = ap length h ∙ length-take 35 (stripped form);
+      whole = λ n. h ∙ take_all 35 (stripped form) (omega (arith, ap length h, length-take 35 (stripped form)));
     }

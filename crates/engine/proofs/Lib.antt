@@ -1,4 +1,0 @@
-pub mod Congruent
-pub mod Keys
-pub mod Searches
-pub mod Singles

@@ -1,5 +1,0 @@
-use Rattle.std.proofs.Common.{length, sym, arith}
-use Rattle.engine.proofs.shared.fitness.Goals as goal
-
-pub overflow_sub-width : goal.overflow_sub-width
-overflow_sub-width g c = omega (arith, ((g.met.E.Engine.keeps c.args.engine.now).wide (length c.args.reading.now) (sym c.if-not-takes.ensures)).0)
