@@ -2,14 +2,13 @@
 use Rattle.std.proofs.Common.{◌≡◌, ℕ, zero, suc, ◌+◌, ◌-◌, ◌≤◌, min, List, [], ◌∷◌, ◌++◌, length, take, sym, refl, ap, ◌∙◌, arith, length-take}
 use borrow.Rule.Slice.PartMut.{put_mid}
 use Rattle.std.proofs.lemmas.Slice.{take-put_mid}
+use Rattle.std.proofs.Math.Seq.{take-append-add}
 use Rattle.std.proofs.lemmas.List.{take_min}
 
 take_past : (n : ℕ) (p q : List ℕ) → length p ≤ n → take n (p ++ q) ≡ p ++ take (n - length p) q
-take_past n [] q h = let e : n - 0 ≡ n = omega arith in rw e
-take_past zero (x ∷ p) q h = absurd (omega arith)
-take_past (suc n) (x ∷ p) q h =
-    let e : suc n - length (x ∷ p) ≡ n - length p = omega arith in
-    rw e (ap (λ (ys : List ℕ). x ∷ ys) (take_past n p q (omega arith)))
+take_past n p q h =
+    let e : n ≡ length p + (n - length p) = omega arith in
+    ap (λ (j : ℕ). take j (p ++ q)) e ∙ take-append-add p q (n - length p)
 
 pub extended : (n w k m : ℕ) (b xs p : List ℕ) → length b ≡ n → w ≤ n → k ≡ min (length xs) (n - w) → m ≡ k → p ≡ take k xs → take (w + k) (put_mid w m b p) ≡ take n (take w b ++ xs)
 extended n w k m b xs p l h e q f =

@@ -36,7 +36,7 @@ pub enum Refusal {
 }
 
 /// A refusal with the layer and the place that it concerns; 0 where it is of no layer or no place.
-// The three are printed as they are, 0 for none: an option would be taken apart only to print it.
+// 0 is how none is written, and a place of none stays none when it is moved: an option would say no more.
 #[derive(Clone, Copy, PartialEq, Eq, Debug)]
 pub struct Fault {
     /// Why.
@@ -74,11 +74,7 @@ impl From<Refusal> for Fault {
     ghost from_gives = { λ refusal fault. fault ≡ of_no_layer refusal };
 
     fn from(refusal: Refusal) -> Fault {
-        Fault {
-            refusal,
-            layer: 0,
-            place: 0,
-        }
+        Fault::new(refusal, 0, 0)
     }
 }
 

@@ -13,7 +13,7 @@ pub const WIDEST: usize = 34;
 /// What a scheme reads of a text: its characters, in the order of the format's turn.
 #[derive(Clone, Copy)]
 pub struct Reading {
-    pub(crate) text: Held<WIDEST>,
+    text: Held<WIDEST>,
 }
 
 // Where the first byte stands that is no character, counted from 0.

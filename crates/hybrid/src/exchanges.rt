@@ -26,6 +26,7 @@ impl Hybrid {
     ///
     /// The two have to be allowed, or the outcome is not fit. Of an accepted number no other slip is accepted: no other exchange,
     /// and no replacement.
+    #[tactic(auto, using(crate::specs::Laws::slips))]
     pub fn exchange_passes(self, value: u16, first: u8, second: u8) -> bool
         ensures rule { Decides result (Exchanges self value first second) }
         ensures list { HybridSlips self }

@@ -17,7 +17,7 @@ pub enum Hybrid {
     Mod37M36,
 }
 
-// The remainder by the modulus, with the modulus for 0.
+// The remainder by the modulus, with the modulus for 0 (as the Belgian key has it; why that is written apart is said there).
 fn full(modulus: u32, sum: u32) -> u32
     requires { 0 < modulus }
     ensures value { result ≡ full_of modulus sum }
@@ -78,6 +78,7 @@ impl Hybrid {
 }
 
 /// The rules of the hybrid systems, answered from M.
+// (why each engine passes the questions about its key on by itself: see `KeyRange`)
 impl Engine for Hybrid {
     ghost rules = { λ h. rules_of h };
 

@@ -8,7 +8,7 @@ use alphabet::{Fault, Held};
 // One byte more than a line may have, so that a line that is too long stays too long.
 const KEPT: usize = 129;
 
-/// The bytes of a line that are kept while it is read: one more than a line may have.
+/// The bytes of a line that are kept while it is read.
 pub type Line = Held<KEPT>;
 
 /// The lines of an input, read a byte at a time, in memory that does not grow with the input.

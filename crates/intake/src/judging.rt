@@ -36,7 +36,7 @@ pub fn judge(line: &[u8]) -> Result<(), Fault>
     }
     let (word, form) = cut(line).ok_or(Refusal::Format)?;
     let format = Format::try_from(word)?;
-    // `strip` copies to a buffer of its caller and answers how much of it is the number: nothing here is on the heap
+    // by its rule `strip` fills the front of its caller's buffer, answers the width, and refuses a buffer that is too short
     let mut buffer = [0; WIDEST];
     let width = strip(form, &mut buffer)?;
     format.check(&buffer[..width])

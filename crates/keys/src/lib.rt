@@ -1,6 +1,6 @@
-//! Keys of one or two characters, by the numbers that they make, as most engines have them.
+//! Keys of one or two characters, by the numbers that they make, and steps by remainder.
 #![tactic(auto)]
 
 mod range;
 
-pub use range::{KeyLength, KeyRange};
+pub use range::{KeyLength, KeyRange, step};

@@ -1,6 +1,7 @@
-ghost use Rattle.std.specs.Prelude.{◌≡◌, length, if◌then◌else◌, nat_eq};
+ghost use Rattle.std.specs.Prelude.{◌≡◌};
+ghost use Rattle.scheme.specs.Rules.{key_in};
 ghost use Rattle.keys.specs.KeyRanges.{keys_of, takes_any, in_key, alphabet_at, count_in, holds_key, symbol_in, symbols_of};
-ghost use Rattle.keys.specs.Remainders.{number_after};
+ghost use Rattle.keys.specs.Remainders.{step_by, number_after};
 
 use alphabet::{Alphabet, WIDEST};
 
@@ -31,6 +32,16 @@ pub struct KeyRange {
     pub many: u16,
 }
 
+/// The running value after a character that counts `count`, where each multiplies the value by `radix` and adds its count, by
+/// remainder `modulus`. By no modulus it is 0, since nothing here may panic.
+pub fn step(modulus: u16, radix: u16, value: u16, count: u8) -> u16
+    ensures { result ≡ step_by modulus radix value count }
+{
+    // 32 bits hold the product of two numbers of 16
+    let sum = u32::from(radix) * u32::from(value) + u32::from(count);
+    sum.checked_rem(u32::from(modulus)).unwrap_or(0) as u16
+}
+
 impl KeyRange {
     /// How many characters a key has.
     pub fn keys(&self) -> usize
@@ -50,6 +61,7 @@ impl KeyRange {
     }
 
     /// Whether a place is one of the key's, at such a width.
+    // at any two numbers, as a scheme's step: so the two stay apart
     pub fn in_key(&self, width: usize, place: usize) -> bool
         ensures { result ≡ in_key self.now width place }
     {
@@ -67,7 +79,7 @@ impl KeyRange {
         }
     }
 
-    /// What a character counts in a key: 0 where it is not allowed there.
+    /// What a character counts in a key: 0 where it is not allowed there, as in a step.
     pub fn count(&self, character: u8) -> u8
         ensures { result ≡ count_in self.now character }
     {
@@ -91,7 +103,8 @@ impl KeyRange {
     }
 
     /// The number of the key that takes a running value to the remainder `target`, where each character of the key multiplies the
-    /// value by `radix` and adds its count, by remainder `modulus`. By no modulus it is the least number.
+    /// value by `radix` and adds its count, by remainder `modulus`. By no modulus it is the least number, since nothing
+    /// here may panic.
     // The four are each engine's own: a struct of them would be made at a call and taken apart in it.
     pub fn number_after(&self, modulus: u16, radix: u16, target: u16, value: u16) -> u64
         ensures { result ≡ number_after self.now modulus radix target value }
@@ -122,7 +135,7 @@ impl KeyRange {
 
     /// Writes the key that makes a number, into a slice of the key's length; a slice of another length stays as it is.
     pub fn write(&self, number: u64, key: &mut [u8])
-        ensures { key.new ≡ (if nat_eq (length key.old) (keys_of self.now.length) then symbols_of self.now number else key.old) }
+        ensures { key.new ≡ key_in (keys_of self.now.length) (symbols_of self.now number) key.old }
     {
         if key.len() != self.keys() {
             return;
@@ -140,7 +153,7 @@ impl KeyRange {
     /// Writes the key that takes a running value to the remainder `target`, the one of the number that `number_after` answers, into a
     /// slice of the key's length; a slice of another length stays as it is.
     pub fn write_after(&self, modulus: u16, radix: u16, target: u16, value: u16, key: &mut [u8])
-        ensures { key.new ≡ (if nat_eq (length key.old) (keys_of self.now.length) then symbols_of self.now (number_after self.now modulus radix target value) else key.old) }
+        ensures { key.new ≡ key_in (keys_of self.now.length) (symbols_of self.now (number_after self.now modulus radix target value)) key.old }
     {
         self.write(self.number_after(modulus, radix, target, value), key)
     }

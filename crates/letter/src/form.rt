@@ -2,7 +2,7 @@ ghost use Rattle.letter.specs.Form.{letter_rules};
 ghost use Rattle.letter.specs.Laws;
 
 use alphabet::Alphabet;
-use keys::{KeyLength, KeyRange};
+use keys::{KeyLength, KeyRange, step};
 use scheme::Engine;
 
 /// The letter form of MOD 97-10: digits and letters that end in two key digits, 02 to 98.
@@ -24,6 +24,7 @@ const KEYS: KeyRange = KeyRange {
 };
 
 /// The rules of the letter form, answered by its methods.
+// (why each engine passes the questions about its key on by itself: see `KeyRange`)
 impl Engine for LetterForm {
     ghost rules = { λ _. letter_rules };
 
@@ -55,10 +56,9 @@ impl Engine for LetterForm {
     }
 
     fn step(&self, _width: usize, _place: usize, value: u16, count: u8) -> u16 {
-        let count = u32::from(count);
-        // one decimal place for a digit, two for a letter; in 32 bits, since 100 times a value may not fit 16
+        // one decimal place for a digit, two for a letter
         let shift = if count < 10 { 10 } else { 100 };
-        ((shift * u32::from(value) + count) % u32::from(MODULUS)) as u16
+        step(MODULUS, shift, value, count)
     }
 
     fn write_key(&self, _width: usize, value: u16, key: &mut [u8]) {

@@ -14,8 +14,8 @@ pub struct BelgianKey;
 // The one width.
 const WIDTH: usize = 12;
 
-// The key of ten digits that leave a running value. It is never 00. (The hybrid systems put M for 0 too; one function for any modulus
-// would have to say something of the modulus 0, and is no plainer.)
+// The key of ten digits that leave a running value. It is never 00. (So `full` of the hybrid systems. A call that other crates share may
+// ask nothing, so it would have to answer for a modulus 0: no plainer.)
 fn key_after(value: u16) -> u64
     ensures { result ≡ belgian_key value }
 {
@@ -30,6 +30,7 @@ impl BelgianKey {
     ///
     /// A replacement moves the running value by the difference of two digits times 1 or 10, and an exchange by 9 or 11 times it.
     /// None of these is a multiple of 97, and what follows keeps different running values apart.
+    #[tactic(auto, using(crate::specs::BelgianLaws::no_slips))]
     pub fn lets_slips_pass(self) -> bool
         ensures never { result ≡ false }
         ensures list { BelgianSlips }
@@ -39,6 +40,7 @@ impl BelgianKey {
 }
 
 /// The rules of the Belgian key, answered by its methods.
+// (why each engine passes the questions about its key on by itself: see `KeyRange`)
 impl Engine for BelgianKey {
     ghost rules = { λ _. belgian_rules };
 

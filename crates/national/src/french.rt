@@ -4,6 +4,7 @@ ghost use Rattle.national.specs.FrenchLaws;
 
 use crate::ranges::{KEYS, MODULUS};
 use alphabet::Alphabet;
+use keys::step;
 use scheme::Engine;
 
 /// The key of a French account number (RIB): ten digits for bank and branch, eleven digits or letters for the account, and two
@@ -53,6 +54,7 @@ impl FrenchKey {
     ///
     /// A step tells counts apart and two steps tell their sequence, so that nothing else passes. B and K count the same: either may
     /// stand for the other in an account.
+    #[tactic(auto, using(crate::specs::FrenchLaws::slips))]
     pub fn lets_pass(self, one: u8, other: u8) -> bool
         ensures rule { Decides result (EqualCount one other) }
         ensures list { FrenchSlips }
@@ -62,6 +64,7 @@ impl FrenchKey {
 }
 
 /// The rules of the French key, answered by its methods.
+// (why each engine passes the questions about its key on by itself: see `KeyRange`)
 impl Engine for FrenchKey {
     ghost rules = { λ _. french_rules };
 
@@ -92,7 +95,7 @@ impl Engine for FrenchKey {
     }
 
     fn step(&self, _width: usize, _place: usize, value: u16, count: u8) -> u16 {
-        ((10 * u32::from(value) + u32::from(count)) % u32::from(MODULUS)) as u16
+        step(MODULUS, 10, value, count)
     }
 
     fn write_key(&self, _width: usize, value: u16, key: &mut [u8]) {

@@ -9,7 +9,7 @@ ghost use Rattle.paper.specs.Paper.{is_gap, wrong_at, stripped, stripping, after
 use alphabet::{Fault, Held, Refusal, WIDEST, is_character};
 
 // One character more than a text may have, so that a form that is too wide stays too wide.
-const KEPT: usize = 35;
+const KEPT: usize = WIDEST + 1;
 
 // Where strip stands in a form.
 #[derive(Clone, Copy, PartialEq, Eq, Debug)]

@@ -4,7 +4,7 @@ ghost use Rattle.pure.specs.Laws;
 
 use alphabet::Alphabet::{self, Alphanumeric, Digits, DigitsX, Full, Letters};
 use keys::KeyLength::{self, One, Two};
-use keys::KeyRange;
+use keys::{KeyRange, step};
 use scheme::Engine;
 
 /// A pure system, by its modulus and radix.
@@ -80,6 +80,7 @@ fn system(
 }
 
 /// The rules of the pure systems, answered from their parameters.
+// (why each engine passes the questions about its key on by itself: see `KeyRange`)
 impl Engine for Pure {
     ghost rules = { λ s. rules_of s };
 
@@ -115,8 +116,7 @@ impl Engine for Pure {
 
     fn step(&self, _width: usize, _place: usize, value: u16, count: u8) -> u16 {
         let parameters = self.parameters();
-        let sum = u32::from(parameters.radix) * u32::from(value) + u32::from(count);
-        (sum % u32::from(parameters.modulus)) as u16
+        step(parameters.modulus, parameters.radix, value, count)
     }
 
     fn write_key(&self, _width: usize, value: u16, key: &mut [u8]) {

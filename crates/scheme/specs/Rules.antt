@@ -7,10 +7,11 @@
 --   body       the characters before the key; `before` is the running value after them, `last` the one after the key
 --   filled     a reading with its key filled in
 --   single     the meaning of an engine as a scheme
+--   key_in     a slice after a key is written into it: one of another length than the key's stays as it is
 --   KeyOf      a key that belongs to a running value: allowed in its places, in range, and it makes the last running value good
 --   Sealed     what filling the key promises of the reading afterwards
 --   Keeps      what the rules of an engine keep, from which the laws of a scheme follow
-use Rattle.std.specs.Prelude.{◌≡◌, ℕ, ◌+◌, ◌-◌, ◌<◌, ◌≤◌, Bool, true, false, cond, not, ◌&&◌, List, [], ◌∷◌, ◌++◌, length, take, drop, is_some, Some, None, Option, ◌==◌, nat_le, nat_lt}
+use Rattle.std.specs.Prelude.{◌≡◌, ℕ, ◌+◌, ◌-◌, ◌<◌, ◌≤◌, Bool, true, false, cond, not, ◌&&◌, List, [], ◌∷◌, ◌++◌, length, take, drop, is_some, Some, None, Option, ◌==◌, nat_le, nat_lt, nat_eq, if◌then◌else◌}
 use Rattle.std.specs.Option.{unwrap_or, option_map}
 use Rattle.alphabet.specs.Characters.{Characters}
 use Rattle.alphabet.specs.Faults.{fault_at, first, whenever}
@@ -80,6 +81,9 @@ single e = record {
   reach = e.keys;
   keyed = filled e;
 }
+
+abbrev pub key_in : ℕ → List ℕ → List ℕ → List ℕ
+key_in n key slice = if nat_eq (length slice) n then key else slice
 
 pub record KeyOf (e : Rules) (w v : ℕ) (ks : List ℕ) : Type 0 where
   pub long : length ks ≡ e.keys

@@ -1,5 +1,5 @@
-ghost use Rattle.std.specs.Prelude.{◌≡◌, length, if◌then◌else◌, nat_eq};
-ghost use Rattle.scheme.specs.Rules.{Rules, Keeps};
+ghost use Rattle.std.specs.Prelude.{◌≡◌};
+ghost use Rattle.scheme.specs.Rules.{Rules, key_in, Keeps};
 
 /// A single scheme that ends in a key and counts with numbers, by its rules.
 ///
@@ -40,7 +40,7 @@ pub trait Engine {
     /// Writes the key that belongs to the running value before it, into a slice of the key's length; a slice of another
     /// length stays as it is.
     fn write_key(&self, width: usize, value: u16, key: &mut [u8])
-        ensures { key.new ≡ (if nat_eq (length key.old) (rules self.now).keys then (rules self.now).key width value else key.old) };
+        ensures { key.new ≡ key_in (rules self.now).keys ((rules self.now).key width value) key.old };
 
     // What its author shows of that.
     ghost keeps: { (e : Self) → Keeps (rules e) };

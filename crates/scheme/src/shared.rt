@@ -77,8 +77,8 @@ pub(crate) fn next_value<E: Engine>(
     engine.step(width, place, value, count)
 }
 
-// The running value before the key of a reading of `width`, after the characters that stand before it. An engine is a scheme, and
-// `value_over` would serve; but then `fill`, which is that scheme's `key`, is in a circle of calls and wants its proof by hand: no plainer.
+// The running value before the key of a reading of `width`, after the characters before it. `value_over` would serve, an engine being a
+// scheme; but that puts `fill`, which is the scheme's `key`, in a circle of calls, whose proof is by hand: no plainer.
 fn value_before<E: Engine>(engine: &E, width: usize, characters: &[u8]) -> u16
     ensures { result ≡ run_by (next_by (E.rules engine.now)) width 1 (E.rules engine.now).start characters.now }
 {

@@ -15,8 +15,7 @@ pub fn value_after<S: Scheme>(scheme: &S, reading: &[u8], places: usize) -> S::V
     value_over(scheme, width, &reading[..places.min(width)])
 }
 
-// The last place at which two readings of one width differ, or 0 where they do not: that many places `value_after` then runs over.
-// (By `zip` and `rposition` the proof did not close.)
+// How many first characters hold every difference of two readings of one width. (By `zip` and `rposition` the proof did not close.)
 fn last_difference(one: &[u8], other: &[u8]) -> usize
     ensures { result ≡ last_difference one.now other.now }
 {
@@ -29,8 +28,8 @@ fn last_difference(one: &[u8], other: &[u8]) -> usize
 /// Whether a slip of an accepted reading passes, that is, is accepted too: whether it is fit, and after the last place at which
 /// the two differ their running values are the same.
 ///
-/// What stands behind that place never brings two running values together again. Of two readings that are no such pair, it
-/// answers just that question.
+/// What stands behind that place never brings two running values together again. Where the two are no accepted reading and a slip of
+/// it, the answer is still whether the second is fit and these values are the same.
 pub fn slip_passes<S: Scheme>(scheme: &S, reading: &[u8], slip: &[u8]) -> bool
     ensures answers { Decides result (Passing (S.meaning scheme.now) reading.now slip.now (last_difference reading.now slip.now)) }
     ensures exact { (S.meaning scheme.now).unfit ≡ false → Slip reading.now slip.now → Text reading.now → Accepted (S.meaning scheme.now) reading.now → Decides result (Accepted (S.meaning scheme.now) slip.now) }
