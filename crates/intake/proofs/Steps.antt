@@ -46,16 +46,15 @@ pub end_told : (i i' : Intake) (v : Result (Unit {0}) Fault) (bytes : List ℕ) 
     length (fed bytes).0 < most_lines → Closed i v i' → Some v ≡ told bytes 10
 end_told i i' v bytes r w h = let same = closed_verdict i i' v bytes r w h in grind (arith, nat_tests)
 
--- any other byte
-pub byte_read : (i i' : Intake) (bytes : List ℕ) (b : ℕ) → Reads i bytes → length (fed bytes).0 < most_lines →
+-- any other byte, also after a million lines
+pub byte_read : (i i' : Intake) (bytes : List ℕ) (b : ℕ) → Reads i bytes →
     eqb b 10 ≡ false → i'.totals ≡ i.totals → line_bytes i'.line ≡ take kept_bytes (line_bytes i.line ++ b ∷ []) →
     Reads i' (bytes ++ b ∷ [])
-byte_read i i' bytes b r w e t h =
+byte_read i i' bytes b r e t h =
     let ls = (fed bytes).0 in
     let l = (fed bytes).1 in
-    let line : line_bytes i'.line ≡ take kept_bytes (l ++ b ∷ []) =
-    h ∙ ap (λ xs. take kept_bytes (xs ++ b ∷ [])) (r.line w) ∙ kept_more kept_bytes l (b ∷ []) in
-    reads_at i' (bytes ++ b ∷ []) (ls, l ++ b ∷ []) (goes_on bytes b e) (rw t r.counts) (λ _. line)
+    reads_at i' (bytes ++ b ∷ []) (ls, l ++ b ∷ []) (goes_on bytes b e) (rw t r.counts)
+    (λ w. h ∙ ap (λ xs. take kept_bytes (xs ++ b ∷ [])) (r.line w) ∙ kept_more kept_bytes l (b ∷ []))
 
 -- a byte after a million lines
 pub full_read : (i : Intake) (bytes : List ℕ) (b : ℕ) → Reads i bytes → most_lines ≤ length (fed bytes).0 → Reads i (bytes ++ b ∷ [])

@@ -134,6 +134,7 @@ impl KeyRange {
     }
 
     /// Writes the key that makes a number, into a slice of the key's length; a slice of another length stays as it is.
+    #[inline]
     pub fn write(&self, number: u64, key: &mut [u8])
         ensures { key.new ≡ key_in (keys_of self.now.length) (symbols_of self.now number) key.old }
     {

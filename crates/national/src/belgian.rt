@@ -72,12 +72,13 @@ impl Engine for BelgianKey {
 
     // Ten digits build the remainder, and the key's two are taken off it again.
     fn step(&self, _width: usize, place: usize, value: u16, count: u8) -> u16 {
-        let digit = u32::from(count);
-        let modulus = u32::from(MODULUS);
+        // of 64 bits, since a remainder of 32 bits by 97 takes more steps of the machine
+        let digit = u64::from(count);
+        let modulus = u64::from(MODULUS);
         let sum = match place {
-            11 => u32::from(value) + (modulus - 10 * digit % modulus),
-            12 => u32::from(value) + (modulus - digit % modulus),
-            _ => 10 * u32::from(value) + digit,
+            11 => u64::from(value) + (modulus - 10 * digit % modulus),
+            12 => u64::from(value) + (modulus - digit % modulus),
+            _ => 10 * u64::from(value) + digit,
         };
         (sum % modulus) as u16
     }

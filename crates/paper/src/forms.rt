@@ -34,8 +34,9 @@ impl From<u8> for Class {
 
     fn from(byte: u8) -> Class {
         match byte {
-            b' ' | b'-' => Class::Gap,
+            // first what most bytes are
             _ if is_character(byte) => Class::Character,
+            b' ' | b'-' => Class::Gap,
             _ => Class::Other,
         }
     }

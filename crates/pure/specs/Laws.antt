@@ -79,15 +79,18 @@ module _ (p : Parameters) (h : Sound p) where
 pub key_for : (p : Parameters) → Sound p → (v : ℕ) → KeyFor p.modulus p.key.least (shifted p.key.length p.radix v) 1 (key_after p.key p.modulus p.radix 1 v)
 key_for p h v = key_from_lem p.modulus p.key.least (shifted p.key.length p.radix v) 1 h.above
 
--- whatever the width and the number before it, the key has its length and is made of characters
+-- of any sound parameters, whatever the width and the number before it, the key has its length and is made of characters
+pub key_long_by : (p : Parameters) (w v : ℕ) → length ((rules_by p).key w v) ≡ (rules_by p).keys
+key_long_by p w v = symbols_length p.key p.key.length _
+
+pub key_written_by : (p : Parameters) → Sound p → (w v : ℕ) → Characters ((rules_by p).key w v)
+key_written_by p h w v = symbols_characters p.key p.key.length (p.key.least + p.key.many) (key_number_lem p h v) h.room (shifts_within (rules_by p) p.key p.modulus p.radix (shifts p h) 1 h.above v).1
+
 pub key_long : (s : Pure) (w v : ℕ) → length ((rules_of s).key w v) ≡ (rules_of s).keys
-key_long s w v = let r = (parameters_of s).key in symbols_length r r.length _
+key_long s = key_long_by (parameters_of s)
 
 pub key_written : (s : Pure) (w v : ℕ) → Characters ((rules_of s).key w v)
-key_written s w v =
-    let p = parameters_of s in
-    let h = sound s in
-    symbols_characters p.key p.key.length (p.key.least + p.key.many) (key_number_lem p h v) h.room (shifts_within (rules_by p) p.key p.modulus p.radix (shifts p h) 1 h.above v).1
+key_written s = key_written_by (parameters_of s) (sound s)
 
 pub keeps : (s : Pure) → Keeps (rules_of s)
 keeps s = keeps_by (parameters_of s) (sound s)

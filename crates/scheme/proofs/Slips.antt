@@ -124,7 +124,3 @@ module _ {V : Type 0} (m : Meaning V) (x y : List ℕ) (r : Bool) where
       let l = law_of_slips m (law u) x y s t a in
       let P : ℕ → Type 0 = λ k. Decides r (Passing m x y k) in
       Decides-like r l.1 l.0 (subst P (slip_last s) d)
-
--- an equality that holds of each value and itself, and of no others, decides whether two are the same
-pub told : {V : Type 0} (eq : V → V → Bool) → ((u v : V) → eq u v ≡ true → u ≡ v) → ((u : V) → eq u u ≡ true) → (r : Bool) (u v : V) → r ≡ eq u v → Decides r (u ≡ v)
-told eq exact same r u v e = (λ t. exact u v (sym e ∙ t), λ p. e ∙ ap (eq u) (sym p) ∙ same u)

@@ -1,3 +1,4 @@
+pub mod ByReading
 pub mod Lists
 pub mod Meaning
 pub mod Rules

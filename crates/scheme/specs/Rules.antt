@@ -3,6 +3,8 @@
 --   next_by    the next running value by a character: one that has no count where it stands steps there with count 0
 --   uncounted  the first place, from k on, of a character that is not allowed there
 --   key_part   the characters of the key of a reading
+--   ends_in_key  whether a reading has a width of the engine and ends in a key in range
+--   by_reading  the same engine by whole readings, of which ByReading.antt speaks
 --   misfit     the first fault of a reading that is not fit: width, kind, key out of range
 --   body       the characters before the key; `before` is the running value after them, `last` the one after the key
 --   filled     a reading with its key filled in
@@ -11,13 +13,14 @@
 --   KeyOf      a key that belongs to a running value: allowed in its places, in range, and it makes the last running value good
 --   Sealed     what filling the key promises of the reading afterwards
 --   Keeps      what the rules of an engine keep, from which the laws of a scheme follow
-use Rattle.std.specs.Prelude.{◌≡◌, ℕ, ◌+◌, ◌-◌, ◌<◌, ◌≤◌, Bool, true, false, cond, not, ◌&&◌, List, [], ◌∷◌, ◌++◌, length, take, drop, is_some, Some, None, Option, ◌==◌, nat_le, nat_lt, nat_eq, if◌then◌else◌}
+use Rattle.std.specs.Prelude.{◌≡◌, ℕ, ◌+◌, ◌-◌, ◌<◌, ◌≤◌, Bool, true, false, cond, not, ◌&&◌, List, [], ◌∷◌, ◌++◌, length, take, drop, is_some, None, Option, ◌==◌, nat_le, nat_lt, nat_eq, if◌then◌else◌}
 use Rattle.std.specs.Option.{unwrap_or, option_map}
 use Rattle.alphabet.specs.Characters.{Characters}
 use Rattle.alphabet.specs.Faults.{fault_at, first, whenever}
 use Rattle.alphabet.specs.declared.fault.Fault.{Fault}
 use Rattle.alphabet.specs.declared.fault.Refusal.TheVariants.{Width, Kind, Key, Remainder}
 use Rattle.scheme.specs.Meaning.{Meaning, Accepted, Step, run_by}
+use Rattle.scheme.specs.ByReading.{ReadingRules, uncounted_by}
 
 pub record Rules : Type 0 where
   -- whether the engine has a width
@@ -41,12 +44,27 @@ abbrev pub next_by : Rules → ℕ → ℕ → ℕ → ℕ → ℕ
 next_by e w k v c = e.step w k v (unwrap_or (e.count w k c) 0)
 
 abbrev pub uncounted : Rules → ℕ → ℕ → List ℕ → Option ℕ
-uncounted e w k [] = None
-uncounted e w k (c ∷ cs) = cond (is_some (e.count w k c)) (uncounted e w (k + 1) cs) (Some k)
+uncounted e = uncounted_by e.count
 
 -- the characters of the key
 abbrev pub key_part : Rules → List ℕ → List ℕ
 key_part e r = drop (length r - e.keys) r
+
+abbrev pub ends_in_key : Rules → List ℕ → Bool
+ends_in_key e r = e.takes (length r) && e.in_range (key_part e r)
+
+-- the engine by whole readings
+abbrev pub by_reading : Rules → ReadingRules
+by_reading e = record {
+  takes = e.takes;
+  keys = e.keys;
+  count = e.count;
+  in_range = λ r. e.in_range (key_part e r);
+  start = e.start;
+  good = e.good;
+  next = next_by e;
+  key = e.key;
+}
 
 abbrev pub misfit : Rules → List ℕ → Option Fault
 misfit e r =

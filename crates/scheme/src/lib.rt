@@ -12,5 +12,5 @@ mod slipping;
 pub use checking::{check, last_value};
 pub use engines::Engine;
 pub use schemes::Scheme;
-pub use shared::{accepts, fill, fits};
+pub use shared::{accepts, ends_in_key, fill, fits};
 pub use slipping::{slip_passes, value_after};

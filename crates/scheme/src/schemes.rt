@@ -1,4 +1,4 @@
-ghost use Rattle.std.specs.Prelude.{◌≡◌, ◌-◌, ◌^◌, min, true, false};
+ghost use Rattle.std.specs.Prelude.{◌≡◌, ◌-◌, ◌^◌, min, false, Decides};
 ghost use Rattle.alphabet.specs.Faults.{answer};
 ghost use Rattle.alphabet.specs.Readings.{Text};
 ghost use Rattle.scheme.specs.Meaning.{Meaning, Lawful, run};
@@ -11,7 +11,8 @@ use alphabet::Fault;
 /// that it answers as the meaning does. Code that works with any scheme rests on nothing else.
 pub trait Scheme {
     /// The running values.
-    type Value: Copy + Eq;
+    // `Copy` alone: a bound `Eq` would ask more of an author's type than `same`, which decides what it would decide
+    type Value: Copy;
 
     // What the scheme is, in one value.
     ghost meaning: { Self → Meaning Self.Value };
@@ -41,6 +42,10 @@ pub trait Scheme {
     fn good(&self) -> Self::Value
         ensures { result ≡ (meaning self.now).good };
 
+    /// Whether two running values are the same.
+    fn same(&self, one: Self::Value, other: Self::Value) -> bool
+        ensures { Decides result (one ≡ other) };
+
     /// Whether a reading is fit.
     fn fit(&self, reading: &[u8]) -> bool
         ensures { result ≡ (meaning self.now).fit reading.now };
@@ -52,9 +57,6 @@ pub trait Scheme {
     /// Fills the key places of a reading with the key that makes it accepted, where there is one.
     fn key(&self, reading: &mut [u8])
         ensures { reading.new ≡ (meaning self.now).keyed reading.old };
-
-    // Running values that compare equal are the same.
-    ghost exact: { (u v : Self.Value) → Self.Value.eq u v ≡ true → u ≡ v };
 
     // What its author shows of that.
     ghost lawful: { (s : Self) → (meaning s).unfit ≡ false → Lawful (meaning s) };

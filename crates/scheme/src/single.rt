@@ -1,6 +1,5 @@
 ghost use Rattle.scheme.specs.Rules.{single};
 ghost use Rattle.scheme.specs.Singles;
-ghost use Rattle.std.proofs.lemmas.Bool.{eqb-true};
 
 use crate::engines::Engine;
 use crate::schemes::Scheme;
@@ -12,8 +11,6 @@ impl<E: Engine> Scheme for E {
     type Value = u16;
 
     ghost meaning = { λ e. single (E.Engine.rules e) };
-
-    ghost exact = { eqb-true };
 
     ghost lawful = { λ s e. Singles.lawful (E.Engine.rules s) (E.Engine.keeps s) };
 
@@ -39,6 +36,10 @@ impl<E: Engine> Scheme for E {
 
     fn good(&self) -> u16 {
         self.target()
+    }
+
+    fn same(&self, one: u16, other: u16) -> bool {
+        one == other
     }
 
     fn fit(&self, reading: &[u8]) -> bool {

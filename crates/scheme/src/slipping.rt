@@ -37,5 +37,5 @@ pub fn slip_passes<S: Scheme>(scheme: &S, reading: &[u8], slip: &[u8]) -> bool
 {
     let place = last_difference(reading, slip);
     let before = value_after(scheme, reading, place);
-    scheme.fit(slip) && before == value_after(scheme, slip, place)
+    scheme.fit(slip) && scheme.same(before, value_after(scheme, slip, place))
 }

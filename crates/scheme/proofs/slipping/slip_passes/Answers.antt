@@ -1,5 +1,5 @@
 use Rattle.std.proofs.Common.{sym, ◌∙◌}
-use Rattle.scheme.proofs.Slips.{told, passing_same, passing_unfit, passing_accepted, law_of_slips}
+use Rattle.scheme.proofs.Slips.{passing_same, passing_unfit, passing_accepted, law_of_slips}
 use Rattle.scheme.proofs.slipping.slip_passes.Goals as goal
 
 pub returns-then-fit : goal.returns-then-fit
@@ -9,9 +9,8 @@ returns-then-fit g c =
     let y = c.args.slip.now in
     let law = g.met.S.Scheme.lawful c.args.scheme.now in
     let f = sym c.fit.ensures ∙ c.if-fit.true in
-    let same = told _ g.met.S.Scheme.exact g.met.S.Value.Eq.laws.refl c.eq.result _ _ c.eq.ensures in
-    let d = passing_same m x y c.eq.result _ _ _ c.last_difference-place.ensures c.value_after-before.ensures c.value_after.ensures f same in
-    record { answers = d; exact = passing_accepted m x y c.eq.result law d; law = λ u. law_of_slips m (law u) }
+    let d = passing_same m x y c.same.result _ _ _ c.last_difference-place.ensures c.value_after-before.ensures c.value_after.ensures f c.same.ensures in
+    record { answers = d; exact = passing_accepted m x y c.same.result law d; law = λ u. law_of_slips m (law u) }
 
 pub returns-else-fit : goal.returns-else-fit
 returns-else-fit g c =
