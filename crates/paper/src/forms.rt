@@ -47,6 +47,7 @@ fn gather(form: &[u8]) -> Result<Held<KEPT>, Fault>
     ensures wrong { MatchResult result (λ _. wrong_at form.now ≡ None) (λ f. option_map (fault_at Stray 0) (wrong_at form.now) ≡ Some f) }
     ensures counted { IfOk result (λ h. length (held h) ≡ min KEPT (length (stripped form.now))) }
     ensures whole { IfOk result (λ h. length (held h) ≤ WIDEST → held h ≡ stripped form.now) }
+    ensures short { IfOk result (λ h. length (held h) ≤ length form.now) }
 {
     let mut state = State::Start;
     let mut text = Held::new();

@@ -61,7 +61,7 @@ module _ (g : ReadingRules) where
   faultless r None q true t h = accepted_by r q (grind (arith, nat_tests))
   faultless r None q false t h = absurd (let z : ◌≡◌ {A = ℕ} 0 1 = cc in let n : ⊥ = omega arith in n)
 
-  no_misfit_of : (r : List ℕ) (f : Option Fault) → misfit_of g r ≡ f → not (is_some f) ≡ true → misfit_of g r ≡ None
+  pub no_misfit_of : (r : List ℕ) (f : Option Fault) → misfit_of g r ≡ f → not (is_some f) ≡ true → misfit_of g r ≡ None
   no_misfit_of r None q h = q
   no_misfit_of r (Some f) q h = absurd (let z : ◌≡◌ {A = ℕ} 0 1 = cc in let n : ⊥ = omega arith in n)
 
@@ -73,7 +73,7 @@ module _ (g : ReadingRules) where
       ∙ ap (λ (b : Bool). first (None ∷ whenever (not b) (fault_at Remainder 1 0) ∷ [])) q
 
   -- the width of a reading that has no misfit is one that the engine has
-  takes_misfit_of : (r : List ℕ) → misfit_of g r ≡ None → g.takes (length r) ≡ true
+  pub takes_misfit_of : (r : List ℕ) → misfit_of g r ≡ None → g.takes (length r) ≡ true
   takes_misfit_of r h = grind (arith, nat_tests)
 
   -- filling, by whether the engine has the width
@@ -82,6 +82,21 @@ module _ (g : ReadingRules) where
 
   length-body_of : (r : List ℕ) → length (body_of g r) ≡ length r - g.keys
   length-body_of r = simp length-take (omega arith)
+
+module _ (g : ReadingRules) (wide : (w : ℕ) → g.takes w ≡ true → (g.keys < w) × (w ≤ 34)) where
+  -- what filling leaves in the program's hands: the key written over the last places
+  pub written_of : (xs y : List ℕ) (n v : ℕ) → n ≡ g.keys → g.takes (length xs) ≡ true → v ≡ run_by g.next (length xs) 1 g.start (take (length xs - n) xs) →
+      y ≡ cond (length (take (length xs - (length xs - n)) (drop (length xs - n) xs)) == g.keys) (g.key (length xs) v) (take (length xs - (length xs - n)) (drop (length xs - n) xs)) →
+      put_mid (length xs - n) (length xs - (length xs - n)) xs y ≡ filled_of g xs
+  written_of xs y n v q t r told =
+      let room = (wide (length xs) t).0 in
+      let part = take (length xs - (length xs - n)) (drop (length xs - n) xs) in
+      let len : length part ≡ g.keys = simp (length-take, length-drop) (omega arith) in
+      let yk : y ≡ g.key (length xs) v = told ∙ ap (λ (b : Bool). cond b (g.key (length xs) v) part) (eq-eqb (length part) g.keys len) in
+      let rest : drop (length xs - (length xs - n)) (drop (length xs - n) xs) ≡ [] = drop_all (length xs - (length xs - n)) (drop (length xs - n) xs) (simp length-drop (omega arith)) in
+      let none = append-nil y in
+      let f = filled_when g xs true t in
+      cc
 
 -- filling keeps the width, where a key has its length
 module _ (g : ReadingRules) (wide : (w : ℕ) → g.takes w ≡ true → (g.keys < w) × (w ≤ 34)) (long : (r : List ℕ) → g.takes (length r) ≡ true → length (g.key (length r) (before_of g r)) ≡ g.keys) where
@@ -313,19 +328,10 @@ module _ (e : Rules) (keeps : Keeps e) where
   pub lawful : Lawful (single e)
   lawful = lawful_of (by_reading e) reading_keeps
 
-  -- what filling leaves in the program's hands: the key written over the last places
   pub written : (xs y : List ℕ) (n v : ℕ) → n ≡ e.keys → e.takes (length xs) ≡ true → v ≡ run_by (next_by e) (length xs) 1 e.start (take (length xs - n) xs) →
       y ≡ cond (length (take (length xs - (length xs - n)) (drop (length xs - n) xs)) == e.keys) (e.key (length xs) v) (take (length xs - (length xs - n)) (drop (length xs - n) xs)) →
       put_mid (length xs - n) (length xs - (length xs - n)) xs y ≡ filled e xs
-  written xs y n v q t r told =
-      let wide = (keeps.wide (length xs) t).0 in
-      let part = take (length xs - (length xs - n)) (drop (length xs - n) xs) in
-      let len : length part ≡ e.keys = simp (length-take, length-drop) (omega arith) in
-      let yk : y ≡ e.key (length xs) v = told ∙ ap (λ (b : Bool). cond b (e.key (length xs) v) part) (eq-eqb (length part) e.keys len) in
-      let rest : drop (length xs - (length xs - n)) (drop (length xs - n) xs) ≡ [] = drop_all (length xs - (length xs - n)) (drop (length xs - n) xs) (simp length-drop (omega arith)) in
-      let none = append-nil y in
-      let f = filled_by e xs true t in
-      cc
+  written = written_of (by_reading e) keeps.wide
 
   pub sealed : (r s : List ℕ) → s ≡ filled e r → Sealed e r s
   sealed r s q =

@@ -1,6 +1,7 @@
 -- Each way through a turn, and each exit, by the lemma of its arm.
-use Rattle.std.proofs.Common.{◌≡◌, ◌<◌, true, false, length, length-take, get_or, take, ap, ◌∙◌, arith, rules}
+use Rattle.std.proofs.Common.{◌≡◌, ◌<◌, true, false, not, length, length-take, get_or, take, refl, ap, ◌∙◌, arith, rules}
 use Rattle.std.proofs.lemmas.List.{take_all}
+use Rattle.std.proofs.lemmas.List.Filters.{length-filter_both}
 use Rattle.alphabet.specs.Holding.{held}
 use Rattle.alphabet.specs.Characters.{is_character}
 use Rattle.paper.specs.Paper.{is_gap, stripped}
@@ -59,4 +60,5 @@ returns-in-Start c =
       wrong = finished c.loop-i.state form i (omega arith) n v.stands;
       counted = ap length h ∙ length-take 35 (stripped form);
       whole = λ n. h ∙ take_all 35 (stripped form) (omega (arith, ap length h, length-take 35 (stripped form)));
+      short = omega (arith, ap length h, length-take 35 (stripped form), length-filter_both is_character (λ b. not (is_character b)) (λ b. refl) form);
     }
