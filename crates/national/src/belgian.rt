@@ -72,7 +72,7 @@ impl Engine for BelgianKey {
 
     // Ten digits build the remainder, and the key's two are taken off it again.
     fn step(&self, _width: usize, place: usize, value: u16, count: u8) -> u16 {
-        // of 64 bits, since a remainder of 32 bits by 97 takes more steps of the machine
+        // of 64 bits: measured, a check took longer with remainders of 32
         let digit = u64::from(count);
         let modulus = u64::from(MODULUS);
         let sum = match place {

@@ -1,4 +1,5 @@
 pub mod Chains
 pub mod Checks
+pub mod Ends
 pub mod Lists
 pub mod Slips

@@ -3,7 +3,7 @@
 --   next_by    the next running value by a character: one that has no count where it stands steps there with count 0
 --   uncounted  the first place, from k on, of a character that is not allowed there
 --   key_part   the characters of the key of a reading
---   ends_in_key  whether a reading has a width of the engine and ends in a key in range
+--   EndsInKey  a reading has a width of the engine and ends in a key in range
 --   by_reading  the same engine by whole readings, of which ByReading.antt speaks
 --   misfit     the first fault of a reading that is not fit: width, kind, key out of range
 --   body       the characters before the key; `before` is the running value after them, `last` the one after the key
@@ -13,14 +13,12 @@
 --   KeyOf      a key that belongs to a running value: allowed in its places, in range, and it makes the last running value good
 --   Sealed     what filling the key promises of the reading afterwards
 --   Keeps      what the rules of an engine keep, from which the laws of a scheme follow
-use Rattle.std.specs.Prelude.{◌≡◌, ℕ, ◌+◌, ◌-◌, ◌<◌, ◌≤◌, Bool, true, false, cond, not, ◌&&◌, List, [], ◌∷◌, ◌++◌, length, take, drop, is_some, None, Option, ◌==◌, nat_le, nat_lt, nat_eq, if◌then◌else◌}
-use Rattle.std.specs.Option.{unwrap_or, option_map}
+use Rattle.std.specs.Prelude.{◌≡◌, ℕ, ◌+◌, ◌-◌, ◌<◌, ◌≤◌, Bool, true, List, ◌++◌, length, drop, None, Option, nat_eq, if◌then◌else◌}
+use Rattle.std.specs.Option.{unwrap_or}
 use Rattle.alphabet.specs.Characters.{Characters}
-use Rattle.alphabet.specs.Faults.{fault_at, first, whenever}
 use Rattle.alphabet.specs.declared.fault.Fault.{Fault}
-use Rattle.alphabet.specs.declared.fault.Refusal.TheVariants.{Width, Kind, Key, Remainder}
 use Rattle.scheme.specs.Meaning.{Meaning, Accepted, Step, run_by}
-use Rattle.scheme.specs.ByReading.{ReadingRules, uncounted_by}
+use Rattle.scheme.specs.ByReading.{ReadingRules, uncounted_by, misfit_of, body_of, before_of, last_of, filled_of, single_of}
 
 pub record Rules : Type 0 where
   -- whether the engine has a width
@@ -50,8 +48,14 @@ uncounted e = uncounted_by e.count
 abbrev pub key_part : Rules → List ℕ → List ℕ
 key_part e r = drop (length r - e.keys) r
 
-abbrev pub ends_in_key : Rules → List ℕ → Bool
-ends_in_key e r = e.takes (length r) && e.in_range (key_part e r)
+-- a reading is a body with a key behind it that is in range, at a width that the engine has
+pub record EndsInKey (e : Rules) (r : List ℕ) : Type 0 where
+  pub front : List ℕ
+  pub key : List ℕ
+  pub whole : r ≡ front ++ key
+  pub width : e.takes (length r) ≡ true
+  pub long : length key ≡ e.keys
+  pub in_range : e.in_range key ≡ true
 
 -- the engine by whole readings
 abbrev pub by_reading : Rules → ReadingRules
@@ -66,39 +70,24 @@ by_reading e = record {
   key = e.key;
 }
 
+-- of the engine by whole readings
 abbrev pub misfit : Rules → List ℕ → Option Fault
-misfit e r =
-    first
-    (whenever (not (e.takes (length r))) (fault_at Width 1 0) ∷
-    option_map (fault_at Kind 1) (uncounted e (length r) 1 r) ∷
-    whenever (not (e.in_range (key_part e r))) (fault_at Key 1 ((length r - e.keys) + 1)) ∷ [])
+misfit e = misfit_of (by_reading e)
 
--- the characters before the key, and the running value after them
 abbrev pub body : Rules → List ℕ → List ℕ
-body e r = take (length r - e.keys) r
+body e = body_of (by_reading e)
 
 abbrev pub before : Rules → List ℕ → ℕ
-before e r = run_by (next_by e) (length r) 1 e.start (body e r)
+before e = before_of (by_reading e)
 
 abbrev pub last : Rules → List ℕ → ℕ
-last e r = run_by (next_by e) (length r) 1 e.start r
+last e = last_of (by_reading e)
 
 abbrev pub filled : Rules → List ℕ → List ℕ
-filled e r = cond (e.takes (length r)) (body e r ++ e.key (length r) (before e r)) r
+filled e = filled_of (by_reading e)
 
 abbrev pub single : Rules → Meaning ℕ
-single e = record {
-  unfit = false;
-  layers = 1;
-  start = e.start;
-  good = e.good;
-  next = next_by e;
-  fit = λ r. not (is_some (misfit e r));
-  fault = λ r. first (misfit e r ∷ whenever (not (last e r == e.good)) (fault_at Remainder 1 0) ∷ []);
-  is_key = λ w k. e.takes w && (nat_lt (w - e.keys) k && nat_le k w);
-  reach = e.keys;
-  keyed = filled e;
-}
+single e = single_of (by_reading e)
 
 abbrev pub key_in : ℕ → List ℕ → List ℕ → List ℕ
 key_in n key slice = if nat_eq (length slice) n then key else slice

@@ -1,7 +1,7 @@
-ghost use Rattle.std.specs.Prelude.{◌≡◌, ◌+◌, ◌-◌, ◌<◌, true, length};
+ghost use Rattle.std.specs.Prelude.{◌≡◌, ◌+◌, ◌-◌, ◌<◌, true, length, Decides};
 ghost use Rattle.alphabet.specs.Faults.{answer};
 ghost use Rattle.scheme.specs.Meaning.{run_by};
-ghost use Rattle.scheme.specs.Rules.{next_by, misfit, uncounted, key_part, ends_in_key, filled, single, last as last_of, Sealed};
+ghost use Rattle.scheme.specs.Rules.{next_by, misfit, uncounted, key_part, EndsInKey, filled, single, last as last_of, Sealed};
 
 use crate::engines::Engine;
 use alphabet::{Fault, Refusal};
@@ -28,7 +28,7 @@ fn key_part<'r, E: Engine>(engine: &E, reading: &'r [u8]) -> &'r [u8]
 
 /// Whether a reading has a width of the engine and ends in a key that is in its range, whatever stands before it.
 pub fn ends_in_key<E: Engine>(engine: &E, reading: &[u8]) -> bool
-    ensures { result ≡ ends_in_key (E.rules engine.now) reading.now }
+    ensures { Decides result (EndsInKey (E.rules engine.now) reading.now) }
 {
     engine.takes(reading.len()) && engine.in_range(key_part(engine, reading))
 }
